@@ -1,0 +1,36 @@
+//! Owned bytes.
+
+ghost use Rattle.std.specs.Prelude.{◌≡◌, List, ℕ, IfOk};
+
+use std::alloc::{AllocError, Global};
+use std::marker::Model;
+
+/// Bytes that are owned, and that contracts see as a list.
+#[derive(Debug, Drop)]
+pub struct Bytes {
+    inner: Vec<u8>,
+}
+
+impl Model for Bytes {
+    ghost Value = { List ℕ };
+
+    ghost view = { λ b. b.inner.items };
+}
+
+impl Bytes {
+    /// A copy of these bytes. It fails for want of memory alone.
+    pub fn of(alloc: Global, bytes: &[u8]) -> Result<Bytes, AllocError>
+        ensures { IfOk result (λ b. b ≡ bytes.now) }
+    {
+        Ok(Bytes {
+            inner: Vec::from_slice(alloc, bytes)?,
+        })
+    }
+
+    /// The bytes, borrowed.
+    pub fn as_bytes(&self) -> &[u8]
+        ensures { result.now ≡ self.now }
+    {
+        self.inner.as_slice()
+    }
+}

@@ -1,0 +1,8 @@
+//! Owned text and bytes, which contracts see as lists.
+#![tactic(auto)]
+
+mod bytes;
+mod text;
+
+pub use bytes::Bytes;
+pub use text::Text;
