@@ -1,0 +1,12 @@
+pub mod Texts
+pub mod Steps
+pub mod Records
+pub mod Starts
+pub mod Says
+pub mod Places
+pub mod Stable
+pub mod Runs
+pub mod Headers
+pub mod Units
+pub mod Grammar
+pub mod Live

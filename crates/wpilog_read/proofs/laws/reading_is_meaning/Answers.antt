@@ -1,0 +1,20 @@
+use Rattle.wpilog_read.proofs.Grammar.{reading-means, means-reading, means-some, means-one, fault-farthest, reads-front}
+use Rattle.wpilog_read.proofs.laws.reading_is_meaning.Goals as goal
+
+pub returns-clause-means : goal.returns-clause-means
+returns-clause-means c = reading-means
+
+pub returns-clause-reads : goal.returns-clause-reads
+returns-clause-reads c = means-reading
+
+pub returns-clause-some : goal.returns-clause-some
+returns-clause-some c = means-some
+
+pub returns-clause-one : goal.returns-clause-one
+returns-clause-one c = means-one
+
+pub returns-clause-longest : goal.returns-clause-longest
+returns-clause-longest c = fault-farthest
+
+pub returns-clause-front : goal.returns-clause-front
+returns-clause-front c = reads-front

@@ -1,0 +1,8 @@
+use Rattle.std.proofs.Common.{arith}
+use Rattle.std.proofs.lemmas.List.{take_all}
+use Rattle.wpilog_read.proofs.whole.read_pieces.Goals as goal
+
+pub returns-clause-only : goal.returns-clause-only
+returns-clause-only c = λ items fault means.
+    let stands = rw (take_all c.loop-piece.piece-index c.args.pieces.now (omega arith)) at c.loop-piece.invariant.stands in
+    rw c.err.ensures.value (c.finish.ensures.only _ _ items fault stands means)
