@@ -1,0 +1,51 @@
+//! The program `nt`: makes the real source, sink and output, and runs the tool that its words ask for.
+#![tactic(auto)]
+
+use nt_cli::{UsageFault, run_tool, tool_files};
+use nt_link::{FileSource, MemSink, MemSource, WriterSink};
+use std::alloc::AllocError;
+use std::io::ErrorKind;
+use std::process::ExitCode;
+use std::rt::{Env, Files};
+use std::{env, io};
+
+/// The status for want of memory.
+const OUT_OF_MEMORY: u8 = 3;
+
+fn main(rt: HostRuntime) -> ExitCode {
+    ExitCode::from(match words(&rt) {
+        Ok(words) => run(&rt, words.as_slice()),
+        Err(AllocError) => OUT_OF_MEMORY,
+    })
+}
+
+/// The words behind the program's name. No tool has a word that is not text, so then there are none.
+fn words<R: Env + AllocGlobal>(rt: &R) -> Result<Vec<String>, AllocError> {
+    match env::args(rt) {
+        Ok(words) => words.skip(1).collect(rt.alloc()),
+        Err(error) if error.kind() == ErrorKind::OutOfMemory => Err(AllocError),
+        Err(_) => Ok(Vec::new(rt.alloc())),
+    }
+}
+
+/// Runs the tool over the file that its words name and standard output. Words that name none get an empty source.
+fn run<R: Files + Print + AllocGlobal>(rt: &R, words: &[String]) -> u8 {
+    let alloc = rt.alloc();
+    let path = match tool_files(alloc, words) {
+        Ok(files) => files.source,
+        Err(UsageFault::Words) => None,
+        Err(UsageFault::Memory) => return OUT_OF_MEMORY,
+    };
+    let mut sink = MemSink::new(alloc, Vec::new(alloc));
+    let mut out = WriterSink::new(io::writer(rt));
+    match path {
+        Some(path) => {
+            let mut source = FileSource::new(rt, path);
+            run_tool(alloc, words, &mut source, &mut sink, &mut out)
+        }
+        None => {
+            let mut source = MemSource::new(Vec::new(alloc), Vec::new(alloc));
+            run_tool(alloc, words, &mut source, &mut sink, &mut out)
+        }
+    }
+}

@@ -1,0 +1,59 @@
+//! The tools: commands that read one source, and end.
+
+ghost use Rattle.std.specs.Prelude.{◌≡◌, ◌≤◌, ◌⊎◌, List, ℕ, Some, None, map, string_bytes};
+ghost use Rattle.std.specs.Io.KnownBytes.{Keeps};
+ghost use Rattle.nt_link.specs.Causes.{Rose, StaysAtEnd};
+ghost use Rattle.nt_cli.specs.Words.{check_file};
+ghost use Rattle.nt_cli.specs.Tool.{Reply, Replies, Decides, IsGiven, IsCutShort};
+
+use crate::check::check;
+use crate::output::tell;
+use crate::words::checked_file;
+use nt_link::{Sink, Source};
+use std::alloc::Global;
+
+/// Runs the tool that these words ask for, those behind the program's name, and answers its status:
+/// 0 where it is done, 1 where the log has a fault or the source has more bytes than a tool reads,
+/// 2 where no tool has these words, 3 for want of memory, and 4 where a read or a write failed.
+pub fn run_tool<R: Source, S: Sink, O: Sink>(
+    alloc: Global,
+    words: &[String],
+    source: &mut R,
+    sink: &mut S,
+    out: &mut O,
+) -> u8
+    // The reply by what was taken of the source is printed, and its status answered.
+    ensures done { result ≤ 2 → (reply : Reply)
+        × Decides (map string_bytes words.now) (R.left source.old) (R.left source.new) reply
+        × IsGiven reply result (O.taken out.old) (O.taken out.new) }
+    // Where the source tells what it has left, the reply to that is given, and no other.
+    ensures exact { (bytes : List ℕ) (reply : Reply) → R.left source.old ≡ Some bytes
+        → Replies (map string_bytes words.now) bytes reply
+        → result ≤ 2 → IsGiven reply result (O.taken out.old) (O.taken out.new) }
+    // For want of memory nothing is printed.
+    ensures memory { result ≡ 3 → Keeps (O.taken out.old) (O.taken out.new) }
+    // A read failed and nothing is printed, or a write did in the midst of the reply.
+    ensures fault { result ≡ 4 →
+        (Rose (R.faults source.old) (R.faults source.new) × Keeps (O.taken out.old) (O.taken out.new))
+        ⊎ (Rose (O.faults out.old) (O.faults out.new) × (reply : Reply)
+        × Decides (map string_bytes words.now) (R.left source.old) (R.left source.new) reply
+        × IsCutShort reply (O.taken out.old) (O.taken out.new)) }
+    ensures most { result ≤ 4 }
+
+    // Words that no tool has are answered by the usage alone, and leave the source untouched.
+    ensures usage { result ≡ 2 → check_file (map string_bytes words.now) ≡ None }
+    ensures unread { check_file (map string_bytes words.now) ≡ None → source.new ≡ source.old }
+
+    ensures sink { sink.new ≡ sink.old }
+    ensures source_later { R.faults source.old ≤ R.faults source.new }
+    ensures source_end { StaysAtEnd (R.faults source.old) (R.faults source.new) }
+    ensures source_aside { R.aside source.new ≡ R.aside source.old }
+    ensures out_later { O.faults out.old ≤ O.faults out.new }
+    ensures out_end { StaysAtEnd (O.faults out.old) (O.faults out.new) }
+    ensures out_aside { O.aside out.new ≡ O.aside out.old }
+{
+    match checked_file(words) {
+        Some(_) => check(alloc, source, out),
+        None => tell(out, 2, "usage\n"),
+    }
+}
