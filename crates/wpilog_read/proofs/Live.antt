@@ -16,6 +16,7 @@ use Rattle.wpilog_read.specs.Meaning.{AreItems, IsLog}
 cmp-equal : (id other : ℕ) → nat_cmp id other ≡ Equal → id ≡ other
 cmp-equal id other e = eqb-true id other (sym (unsigned_tied id other) ∙ ap is_eq e)
 
+-- nor where the first is the greater
 cmp-greater : (id other : ℕ) → nat_cmp id other ≡ Greater → id ≢ other
 cmp-greater id other e = eqb-false id other (sym (unsigned_tied id other) ∙ ap is_eq e)
 

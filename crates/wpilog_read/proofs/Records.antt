@@ -7,16 +7,19 @@ use Rattle.wpilog_read.specs.declared.fault.Stop.TheVariants.{Wanting}
 use Rattle.wpilog_read.specs.Reading.{◌>>=◌, bytes_at, number_at, record_at}
 use Rattle.wpilog_read.proofs.Steps.{ok_is, bind_ok, StopsAt, err-stops, ok-stops, bind-stops, parts_then, bytes_at-takes, bytes_at-again, bytes_at-stops, number_at-takes, number_at-again, number_at-stops}
 
--- what follows each number of a record
+-- fields of these values
 abbrev made : ℕ → ℕ → ℕ → List ℕ → Fields
 made first entry time payload = record { spare = nat_le 128 first; entry = entry; time = time; payload = payload }
 
+-- what follows the timestamp: the payload
 abbrev from_payload : ℕ → ℕ → ℕ → ℕ → List ℕ → Result (Fields × List ℕ) Stop
 from_payload first entry size time rest = bytes_at Wanting size rest >>= λ payload. Ok (made first entry time payload.0, payload.1)
 
+-- what follows the payload size
 abbrev from_time : ℕ → ℕ → ℕ → List ℕ → Result (Fields × List ℕ) Stop
 from_time first entry size rest = number_at Wanting (first / 16 % 8 + 1) rest >>= λ time. from_payload first entry size time.0 time.1
 
+-- what follows the entry id
 abbrev from_size : ℕ → ℕ → List ℕ → Result (Fields × List ℕ) Stop
 from_size first entry rest = number_at Wanting (first / 4 % 4 + 1) rest >>= λ size. from_time first entry size.0 size.1
 

@@ -14,14 +14,17 @@ use Rattle.wpilog_read.proofs.Stable.{more, header-more, header-again, header-wr
 
 -- ---- the header read, if it is whole
 
+-- with a header that is read the reader stands behind it
 pub settle-ok : (r h : Reading) → behind_header r ≡ Ok h → settle r ≡ h
 unfolding settle
 settle-ok r h e = rw e refl
 
+-- with none it stands where it was
 pub settle-err : (r : Reading) (stop : Stop) → behind_header r ≡ Err stop → settle r ≡ r
 unfolding settle
 settle-err r stop e = rw e refl
 
+-- the next item is the same behind the header
 pub next-settle : (r : Reading) → next_of (settle r) ≡ next_of r
 unfolding next_of
 next-settle r = by_header (behind_header r) refl where
@@ -29,18 +32,21 @@ next-settle r = by_header (behind_header r) refl where
   by_header (Ok h) e = rw (settle-ok r h e, (header-again r h e).again, e) refl
   by_header (Err stop) e = rw (settle-err r stop e) refl
 
+-- the header is taken once
 pub settle-settle : (r : Reading) → settle (settle r) ≡ settle r
 settle-settle r = by_header (behind_header r) refl where
   by_header : (h : Result Reading Stop) → behind_header r ≡ h → settle (settle r) ≡ settle r
   by_header (Ok h) e = rw (settle-ok r h e) (settle-ok h h (header-again r h e).again)
   by_header (Err stop) e = rw (settle-err r stop e) (settle-err r stop e)
 
+-- and it changes no fault
 pub settle-fault : (r : Reading) → (settle r).fault ≡ r.fault
 settle-fault r = by_header (behind_header r) refl where
   by_header : (h : Result Reading Stop) → behind_header r ≡ h → (settle r).fault ≡ r.fault
   by_header (Ok h) e = rw (settle-ok r h e) (header-again r h e).fault
   by_header (Err stop) e = rw (settle-err r stop e) refl
 
+-- more bytes come to the same place
 settle-more : (r : Reading) (piece : List ℕ) → settle (more (settle r) piece) ≡ settle (more r piece)
 settle-more r piece = by_header (behind_header r) refl where
   by_header : (h : Result Reading Stop) → behind_header r ≡ h → settle (more (settle r) piece) ≡ settle (more r piece)
@@ -62,43 +68,53 @@ wrong-place r piece kind wrong = by_header (behind_header r) refl where
 
 -- ---- behind the header
 
+-- a header that was read is not read again, by the test
 opened_by : (begun : Bool) (r : Reading) (other : Result Reading Stop) → begun ≡ true → cond begun (done r) other ≡ Ok r
 opened_by true r other e = refl
 opened_by false r other e = absurd cc
 
+-- a header that was read is not read again
 pub begun-opened : (r : Reading) → r.begun ≡ true → behind_header r ≡ Ok r
 unfolding behind_header
 begun-opened r e = opened_by r.begun r _ e
 
+-- behind the header the next item is a record
 pub next-opened : (r : Reading) → behind_header r ≡ Ok r → next_of r ≡ record_next r
 unfolding next_of
 next-opened r e = rw e refl
 
+-- where the header is not read no item is
 pub next-closed : (r : Reading) (stop : Stop) → behind_header r ≡ Err stop → next_of r ≡ Err stop
 unfolding next_of
 next-closed r stop e = rw e refl
 
+-- a run from before the header is one from behind it
 pub Reads-opened : (xs : List ItemAt) (r h s : Reading) → behind_header r ≡ Ok h → Reads r xs s → Reads h xs s
 Reads-opened [] r h s e reads = reads ∙ settle-ok r h e ∙ sym (settle-ok h h (header-again r h e).again)
 Reads-opened (x ∷ xs) r h s e reads = (reads.0, ap next_of (sym (settle-ok r h e)) ∙ next-settle r ∙ reads.1, reads.2)
 
+-- and the other way round
 pub Reads-closed : (xs : List ItemAt) (r h s : Reading) → behind_header r ≡ Ok h → Reads h xs s → Reads r xs s
 Reads-closed [] r h s e reads = reads ∙ settle-ok h h (header-again r h e).again ∙ sym (settle-ok r h e)
 Reads-closed (x ∷ xs) r h s e reads = (reads.0, sym (next-settle r) ∙ ap next_of (settle-ok r h e) ∙ reads.1, reads.2)
 
 -- ---- runs
 
+-- states that differ in the header alone have the same next item
 next-same : (r s : Reading) → settle s ≡ settle r → next_of r ≡ next_of s
 next-same r s e = sym (next-settle r) ∙ ap next_of (sym e) ∙ next-settle s
 
+-- a run goes on by one item
 pub Reads-snoc : (xs : List ItemAt) (r s m : Reading) (x : ItemAt) → Reads r xs s → next_of s ≡ Ok (x, m) → Reads r (xs ++ x ∷ []) m
 Reads-snoc [] r s m x reads e = (m, next-same r s reads ∙ e, refl)
 Reads-snoc (y ∷ ys) r s m x reads e = (reads.0, reads.1, Reads-snoc ys reads.0 s m x reads.2 e)
 
+-- a run stays one where more bytes come
 pub Reads-more : (xs : List ItemAt) (r s : Reading) (piece : List ℕ) → Reads r xs s → Reads (more r piece) xs (more s piece)
 Reads-more [] r s piece reads = sym (settle-more s piece) ∙ ap (λ (w : Reading). settle (more w piece)) reads ∙ settle-more r piece
 Reads-more (x ∷ xs) r s piece reads = (more reads.0 piece, next-more r piece (x, reads.0) reads.1, Reads-more xs reads.0 s piece reads.2)
 
+-- a run ends as well behind the header
 pub Reads-settle : (xs : List ItemAt) (r s : Reading) → Reads r xs s → Reads r xs (settle s)
 Reads-settle [] r s reads = settle-settle s ∙ reads
 Reads-settle (x ∷ xs) r s reads = (reads.0, reads.1, Reads-settle xs reads.0 s reads.2)
@@ -119,10 +135,12 @@ Reads-one (x ∷ xs) (y ∷ ys) r s t a b last_s last_t =
     let others = Reads-one xs ys b.0 s t (subst (λ (w : Reading). Reads w xs s) state a.2) b.2 last_s last_t in
     (ap (λ (w : ItemAt). w ∷ xs) item ∙ ap (λ (w : List ItemAt). y ∷ w) others.0, others.1)
 
+-- where reading ends no item follows
 pub Ends-last : (next : Result (ItemAt × Reading) Stop) (s : Reading) (fault : Option LogFault) → Ends next s fault → (y : ItemAt × Reading) → next ≡ Ok y → ⊥
 Ends-last (Ok x) s fault ends y e = ends
 Ends-last (Err stop) s fault ends y e = cc
 
+-- reading ends with one fault or none
 Ends-one : (next : Result (ItemAt × Reading) Stop) (s : Reading) (fault other : Option LogFault) → Ends next s fault → Ends next s other → fault ≡ other
 Ends-one (Ok x) s fault other a b = absurd a
 Ends-one (Err Wanting) s fault other a b = a ∙ sym b
@@ -139,41 +157,51 @@ one-reading bytes items others fault other a b =
 
 -- ---- a reader in the midst of a run
 
+-- a reader with no fault stands at the end of a run
 pub Stands-going : (bytes : List ℕ) (items : List ItemAt) (r : Reading) → r.fault ≡ None → Stands bytes items r → Reads (start bytes) items r
 Stands-going bytes items r none stands = subst (λ (fault : Option LogFault). StandsBy fault bytes items r) none stands
 
+-- and the other way round
 pub Stands-from : (bytes : List ℕ) (items : List ItemAt) (r : Reading) → r.fault ≡ None → Reads (start bytes) items r → Stands bytes items r
 Stands-from bytes items r none reads = subst (λ (fault : Option LogFault). StandsBy fault bytes items r) (sym none) reads
 
+-- a reader stands for more bytes, by its fault
 fed-by : (bytes piece : List ℕ) (items : List ItemAt) (r : Reading) (fault : Option LogFault) → r.fault ≡ fault → StandsBy fault bytes items r → StandsBy fault (bytes ++ piece) items (cond (is_some fault) r (more r piece))
 fed-by bytes piece items r None e stands = Reads-more items (start bytes) r piece stands
 fed-by bytes piece items r (Some fault) e s =
     let at : (settle (more s.0 piece)).at ≡ (settle s.0).at = wrong-place s.0 piece fault.kind s.2 in
     (more s.0 piece, Reads-more items (start bytes) s.0 piece s.1, next-wrong s.0 piece fault.kind s.2, s.3 ∙ ap (λ (n : ℕ). record { at = n; kind = fault.kind }) (sym at))
 
+-- more bytes change no fault
 fed-fault : (r : Reading) (piece : List ℕ) (fault : Option LogFault) → r.fault ≡ fault → (cond (is_some fault) r (more r piece)).fault ≡ fault
 fed-fault r piece None e = e
 fed-fault r piece (Some fault) e = e
 
+-- a reader that was fed stands for the bytes with the piece
 pub Stands-fed : (bytes piece : List ℕ) (items : List ItemAt) (r m : Reading) → m ≡ fed r piece → Stands bytes items r → Stands (bytes ++ piece) items m
 Stands-fed bytes piece items r m e stands =
     rw e (subst (λ (fault : Option LogFault). StandsBy fault (bytes ++ piece) items (fed r piece)) (sym (fed-fault r piece r.fault refl)) (fed-by bytes piece items r r.fault refl stands))
 
+-- behind an item a reader stands for one item more
 Stands-item : (bytes : List ℕ) (items : List ItemAt) (r m : Reading) (x : ItemAt) → r.fault ≡ None → next_of r ≡ Ok (x, m) → Stands bytes items r → Stands bytes (items ++ x ∷ []) m
 Stands-item bytes items r m x none e stands =
     Stands-from bytes (items ++ x ∷ []) m (next-fault r (x, m) e ∙ none) (Reads-snoc items (start bytes) r m x (Stands-going bytes items r none stands) e)
 
+-- where nothing follows it stands for the same items
 Stands-none : (bytes : List ℕ) (items : List ItemAt) (r m : Reading) → r.fault ≡ None → m ≡ settle r → Stands bytes items r → Stands bytes items m
 Stands-none bytes items r m none e stands =
     rw e (Stands-from bytes items (settle r) (settle-fault r ∙ none) (Reads-settle items (start bytes) r (Stands-going bytes items r none stands)))
 
+-- and so with a fault that is known now
 Stands-broken : (bytes : List ℕ) (items : List ItemAt) (r m : Reading) (fault : LogFault) → r.fault ≡ None → next_of r ≡ Err (Known fault.kind) → fault.at ≡ (settle r).at → m ≡ broken fault (settle r) → Stands bytes items r → Stands bytes items m
 Stands-broken bytes items r m fault none wrong at e stands =
     rw e (r, Stands-going bytes items r none stands, wrong, ap (λ (n : ℕ). record { at = n; kind = fault.kind }) at)
 
+-- where nothing follows reading may end
 IsEnded-none : (r m : Reading) → r.fault ≡ None → m ≡ settle r → next_of r ≡ Err Wanting → IsEnded m
 IsEnded-none r m none e wanting = rw e (subst (λ (fault : Option LogFault). IsEndedBy fault (settle r)) (sym (settle-fault r ∙ none)) (next-settle r ∙ wanting, settle-settle r))
 
+-- and so with a fault
 IsEnded-broken : (r m : Reading) (fault : LogFault) → m ≡ broken fault r → IsEnded m
 IsEnded-broken r m fault e = rw e tt
 
@@ -185,12 +213,14 @@ pub record Steps (r m : Reading) (result : Result (Option ItemAt) NextFault) : T
   pub none : IfOk result (λ o. IfNone o ((next_of r ≡ Err Wanting) × (m ≡ settle r)))
   pub fault : IfErr result (λ e. EndsBy e (next_of r) r m)
 
+-- whatever a step answered, the reader stands for the items with those that it gave
 pub Steps-stands : (r m : Reading) (result : Result (Option ItemAt) NextFault) → r.fault ≡ None → Steps r m result → (bytes : List ℕ) (items : List ItemAt) → Stands bytes items r → Stands bytes (items ++ given result) m
 Steps-stands r m (Ok (Some x)) none s bytes items stands = Stands-item bytes items r m x none s.item stands
 Steps-stands r m (Ok None) none s bytes items stands = rw append-nil (Stands-none bytes items r m none s.none.1 stands)
 Steps-stands r m (Err (Log fault)) none s bytes items stands = rw append-nil (Stands-broken bytes items r m fault none s.fault.0 s.fault.1 s.fault.2 stands)
 Steps-stands r m (Err Memory) none s bytes items stands = rw append-nil (Stands-none bytes items r m none s.fault stands)
 
+-- where a step gave none for another cause than memory reading may end
 pub Steps-ended : (r m : Reading) (result : Result (Option ItemAt) NextFault) → r.fault ≡ None → Steps r m result
     → MatchResult result (λ o. IfNone o (IsEnded m)) (λ e. (fault : LogFault) → e ≡ Log fault → IsEnded m)
 Steps-ended r m (Ok (Some x)) none s = tt

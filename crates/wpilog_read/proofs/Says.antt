@@ -22,6 +22,7 @@ pub record SaysPlain (live : Entries) (fields : Fields) (item : LogItem) : Type 
   pub may_come : MayCome live item
   pub plain : IsPlain item
 
+-- fields of these values
 abbrev of : Bool → ℕ → ℕ → List ℕ → Fields
 of spare entry time payload = record { spare = spare; entry = entry; time = time; payload = payload }
 
@@ -33,6 +34,7 @@ start-said live spare time bytes item e =
     let t = start_of-takes live time bytes item e in
     subst (λ (w : LogItem). SaysPlain live (of spare 0 time (0 ∷ bytes)) w) t.item_is (record { says = (refl, refl, t.is_new.is); may_come = (t.is_new.nonzero, t.is_new.new); plain = t.is_new.plain })
 
+-- what follows the id of a Finish
 abbrev from_id : Entries → ℕ → ℕ × List ℕ → Result LogItem Stop
 from_id live time id = unless (not (eqb (length id.1) 0)) NotBuilt >>= λ ended. unless (not (is_live live id.0)) NotBuilt >>= λ known. Ok (Finish time id.0)
 
@@ -87,6 +89,7 @@ control_of-stops live time (kind ∷ bytes) =
 
 -- ---- values
 
+-- the value of a payload of 8 bytes
 abbrev int64 : List ℕ → LogValue
 int64 payload = Int64 (cast_signed w64 (number payload))
 
@@ -136,6 +139,7 @@ value_of-stops live time id payload stop e = by_type (type_of live id) refl wher
 
 -- ---- items
 
+-- what a record says, by its entry
 abbrev chosen : Entries → Fields → Result LogItem Stop
 chosen live fields = cond (eqb fields.entry 0) (control_of live fields.time fields.payload) (value_of live fields.time fields.entry fields.payload)
 

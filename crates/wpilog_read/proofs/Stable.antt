@@ -21,9 +21,11 @@ more r piece = record r { rest = r.rest ++ piece }
 
 -- ---- the header
 
+-- a reader behind the header
 abbrev behind : Entries → ℕ → List ℕ → Option LogFault → Reading
 behind live at rest fault = record { begun = true; live = live; at = at; rest = rest; fault = fault }
 
+-- a reader before it
 abbrev before : Entries → ℕ → List ℕ → Option LogFault → Reading
 before live at rest fault = record { begun = false; live = live; at = at; rest = rest; fault = fault }
 
@@ -33,6 +35,7 @@ record TakesHeader (live : Entries) (at : ℕ) (rest : List ℕ) (fault : Option
   starts : starts_with nat_eq rest header ≡ true
   is : behind live (at + 12) (drop 12 rest) fault ≡ h
 
+-- a header that is read begins the bytes
 header-takes : (live : Entries) (at : ℕ) (rest : List ℕ) (fault : Option LogFault) (h : Reading) → behind_header (before live at rest fault) ≡ Ok h → TakesHeader live at rest fault h
 unfolding behind_header
 header-takes live at rest fault h e =
@@ -41,6 +44,7 @@ header-takes live at rest fault h e =
     let starts = pass_ok (starts_with nat_eq rest header) not_built (Ok found) h long.1 in
     record { long = ltb-false _ _ long.0; starts = starts.0; is = ok_is found h starts.1 }
 
+-- a header that is read is read where more bytes come, by the fields
 header-more_at : (begun : Bool) (live : Entries) (at : ℕ) (rest : List ℕ) (fault : Option LogFault) (h : Reading) (piece : List ℕ)
     → behind_header (record { begun = begun; live = live; at = at; rest = rest; fault = fault }) ≡ Ok h → behind_header (record { begun = begun; live = live; at = at; rest = rest ++ piece; fault = fault }) ≡ Ok (more h piece)
 unfolding behind_header
@@ -52,9 +56,11 @@ header-more_at false live at rest fault h piece e =
     let starts : starts_with nat_eq (rest ++ piece) header ≡ true = rw (take-append-le 12 rest piece long) t.starts in
     rw (longer, starts, drop-append-le 12 rest piece long) (ap (λ (w : Reading). done (more w piece)) t.is)
 
+-- a header that is read is read where more bytes come
 pub header-more : (r h : Reading) (piece : List ℕ) → behind_header r ≡ Ok h → behind_header (more r piece) ≡ Ok (more h piece)
 header-more r h piece e = header-more_at r.begun r.live r.at r.rest r.fault h piece e
 
+-- a header that is wrong stays wrong, by the fields
 header-wrong_at : (begun : Bool) (live : Entries) (at : ℕ) (rest : List ℕ) (fault : Option LogFault) (kind : LogKind) (piece : List ℕ)
     → behind_header (record { begun = begun; live = live; at = at; rest = rest; fault = fault }) ≡ Err (Known kind)
     → behind_header (record { begun = begun; live = live; at = at; rest = rest ++ piece; fault = fault }) ≡ Err (Known kind)
@@ -89,6 +95,7 @@ pub record Opened (r h : Reading) : Type 0 where
   pub fault : h.fault ≡ r.fault
   pub shorter : length h.rest ≤ length r.rest
 
+-- a header that is read is behind the reader, by the fields
 opened_at : (begun : Bool) (live : Entries) (at : ℕ) (rest : List ℕ) (fault : Option LogFault) (h : Reading)
     → behind_header (record { begun = begun; live = live; at = at; rest = rest; fault = fault }) ≡ Ok h → Opened (record { begun = begun; live = live; at = at; rest = rest; fault = fault }) h
 unfolding behind_header
@@ -98,6 +105,7 @@ opened_at false live at rest fault h e =
     let t = header-takes live at rest fault h e in
     subst (λ (w : Reading). Opened (before live at rest fault) w) t.is (record { again = refl; begun = refl; live = refl; fault = refl; shorter = omega (arith, length-drop 12 rest) })
 
+-- a header that is read is behind the reader
 pub header-again : (r h : Reading) → behind_header r ≡ Ok h → Opened r h
 header-again r h e = opened_at r.begun r.live r.at r.rest r.fault h e
 
@@ -115,6 +123,7 @@ pub record Step (r : Reading) (y : ItemAt × Reading) : Type 0 where
   pub says : item_of r.live fields.0 ≡ Ok item
   pub is : step r fields item ≡ y
 
+-- an item that is read comes of a step
 pub step-of : (r : Reading) (y : ItemAt × Reading) → record_next r ≡ Ok y → Step r y
 unfolding record_next
 step-of r y e =
@@ -122,12 +131,14 @@ step-of r y e =
     let b = bind_ok (item_of r.live a.0.0) (λ item. Ok (step r a.0 item)) y a.2 in
     record { fields = a.0; item = b.0; read = a.1; says = b.1; is = ok_is (step r a.0 b.0) y b.2 }
 
+-- a record that is read is read where more bytes come
 record_at-more : (bytes piece : List ℕ) (x : Fields × List ℕ) → record_at bytes ≡ Ok x → record_at (bytes ++ piece) ≡ Ok (x.0, x.1 ++ piece)
 record_at-more bytes piece x e =
     let t = record_at-takes bytes x e in
     let parts : bytes ++ piece ≡ t.front ++ (x.1 ++ piece) = ap (λ (w : List ℕ). w ++ piece) t.parts ∙ append_assoc t.front x.1 piece in
     ap record_at parts ∙ record_at-again t.front (x.1 ++ piece) x.0 t.is
 
+-- and so is its item
 record-more : (r : Reading) (piece : List ℕ) (y : ItemAt × Reading) → record_next r ≡ Ok y → record_next (more r piece) ≡ Ok (y.0, more y.1 piece)
 unfolding record_next
 record-more r piece y e =
@@ -165,12 +176,14 @@ record-forward r y e =
 
 -- ---- any unit
 
+-- an item that is read is read where more bytes come
 pub next-more : (r : Reading) (piece : List ℕ) (y : ItemAt × Reading) → next_of r ≡ Ok y → next_of (more r piece) ≡ Ok (y.0, more y.1 piece)
 unfolding next_of
 next-more r piece y e =
     let a = bind_ok (behind_header r) record_next y e in
     rw (header-more r a.0 piece a.1) (record-more a.0 piece y a.2)
 
+-- a fault that is known stays known
 pub next-wrong : (r : Reading) (piece : List ℕ) (kind : LogKind) → next_of r ≡ Err (Known kind) → next_of (more r piece) ≡ Err (Known kind)
 unfolding next_of
 next-wrong r piece kind e = elim (bind_err (behind_header r) record_next (Known kind) e) [

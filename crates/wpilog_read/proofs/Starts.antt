@@ -70,15 +70,19 @@ ended-none rest x e = nil_from_length rest (eqb-true (length rest) 0 (not-false 
 record SpellsFields (bytes : List ℕ) (fields : StartFields) : Type 0 where
   spelled : IsUtf8 fields.name → IsUtf8 fields.typ → IsUtf8 fields.meta → IsStart (0 ∷ bytes) fields.id fields.name fields.typ fields.meta
 
+-- fields of these values
 abbrev made : ℕ → List ℕ → List ℕ → List ℕ → StartFields
 made id name typ meta = record { id = id; name = name; typ = typ; meta = meta }
 
+-- what follows the type of a Start: the metadata, and the end
 abbrev from_meta : ℕ → List ℕ → List ℕ → List ℕ → Result StartFields Stop
 from_meta id name typ rest = string_at rest >>= λ meta. unless (not (eqb (length meta.1) 0)) NotBuilt >>= λ ended. Ok (made id name typ meta.0)
 
+-- what follows the name
 abbrev from_typ : ℕ → List ℕ → List ℕ → Result StartFields Stop
 from_typ id name rest = string_at rest >>= λ typ. from_meta id name typ.0 typ.1
 
+-- what follows the id
 abbrev from_name : ℕ → List ℕ → Result StartFields Stop
 from_name id rest = string_at rest >>= λ name. from_typ id name.0 name.1
 
@@ -157,10 +161,12 @@ pub record TakesStart (live : Entries) (time : ℕ) (bytes : List ℕ) (item : L
   pub is_new : IsNew live bytes id name typ meta
   pub item_is : Start time id name typ meta ≡ item
 
+-- what follows the texts of a Start: the tests
 abbrev from_tests : Entries → ℕ → ℕ → List ℕ → List ℕ → List ℕ → Result LogItem Stop
 from_tests live time id name typ meta =
     unless (eqb id 0) NotBuilt >>= λ nonzero. unless (is_live live id) NotBuilt >>= λ new. unless (not (bytes_eq typ (codes "int64"))) NotBuilt >>= λ plain. Ok (Start time id name typ meta)
 
+-- what follows the fields: the texts
 abbrev from_texts : Entries → ℕ → StartFields → Result LogItem Stop
 from_texts live time fields = text_of fields.name >>= λ name. text_of fields.typ >>= λ typ. text_of fields.meta >>= λ meta. from_tests live time fields.id name typ meta
 

@@ -91,6 +91,7 @@ pub record Takes (n : ℕ) (bytes front rest : List ℕ) : Type 0 where
   pub parts : bytes ≡ front ++ rest
   pub len : length front ≡ n
 
+-- bytes that are read begin the bytes
 pub bytes_at-takes : (stop : Stop) (n : ℕ) (bytes : List ℕ) (x : List ℕ × List ℕ) → bytes_at stop n bytes ≡ Ok x → Takes n bytes x.0 x.1
 bytes_at-takes stop n bytes x e =
     let g = guard_ok (ltb (length bytes) n) stop (Ok (take n bytes, drop n bytes)) x e in
@@ -114,6 +115,7 @@ pub record TakesNumber (n : ℕ) (bytes : List ℕ) (value : ℕ) (rest : List �
   pub len : length field ≡ n
   pub is : number field ≡ value
 
+-- a number that is read is spelled so
 pub number_at-takes : (stop : Stop) (n : ℕ) (bytes : List ℕ) (x : ℕ × List ℕ) → number_at stop n bytes ≡ Ok x → TakesNumber n bytes x.0 x.1
 unfolding number_at
 number_at-takes stop n bytes x e =

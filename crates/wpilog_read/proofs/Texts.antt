@@ -4,10 +4,12 @@ use Rattle.std.specs.Str.{IsUtf8, is_utf8}
 use Rattle.std.proofs.lemmas.Str.{IsUtf8-from_is_utf8, is_utf8-from_IsUtf8}
 use Rattle.wpilog_read.specs.Reading.{text_of, not_built}
 
+-- a text is read as it is
 pub text_of-text : (bytes text : List ℕ) → IsUtf8 bytes → text ≡ bytes → text_of bytes ≡ Ok text
 unfolding text_of
 text_of-text bytes text h e = rw (is_utf8-from_IsUtf8 bytes h, e) refl
 
+-- other bytes are not read as text
 pub text_of-other : (bytes : List ℕ) → ¬ (IsUtf8 bytes) → text_of bytes ≡ Err not_built
 unfolding text_of
 text_of-other bytes h = by_test (is_utf8 bytes) refl where
