@@ -27,10 +27,24 @@ impl Bytes {
         })
     }
 
+    /// The bytes of a vector. It takes no memory.
+    pub fn of_vec(bytes: Vec<u8>) -> Bytes
+        ensures { result ≡ bytes.items }
+    {
+        Bytes { inner: bytes }
+    }
+
     /// The bytes, borrowed.
     pub fn as_bytes(&self) -> &[u8]
         ensures { result.now ≡ self.now }
     {
         self.inner.as_slice()
+    }
+
+    /// Equal bytes. It fails for want of memory alone.
+    pub fn copy(&self, alloc: Global) -> Result<Bytes, AllocError>
+        ensures { IfOk result (λ bytes. bytes ≡ self.now) }
+    {
+        Bytes::of(alloc, self.as_bytes())
     }
 }

@@ -27,10 +27,24 @@ impl Text {
         })
     }
 
+    /// The text of a string. It takes no memory.
+    pub fn of_string(text: String) -> Text
+        ensures { result ≡ string_bytes text }
+    {
+        Text { inner: text }
+    }
+
     /// The text, borrowed.
     pub fn as_str(&self) -> &str
         ensures { result.now ≡ self.now }
     {
         self.inner.as_str()
+    }
+
+    /// An equal text. It fails for want of memory alone.
+    pub fn copy(&self, alloc: Global) -> Result<Text, AllocError>
+        ensures { IfOk result (λ text. text ≡ self.now) }
+    {
+        Text::of(alloc, self.as_str())
     }
 }

@@ -1,0 +1,6 @@
+pub mod Patterns
+pub mod Nearest
+pub mod RoundedOff
+pub mod Wholes
+pub mod Formats
+pub mod OneAnswer
