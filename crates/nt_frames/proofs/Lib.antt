@@ -1,0 +1,12 @@
+pub mod Steps
+pub mod Rows
+pub mod Whole
+pub mod Values
+pub mod Goes
+pub mod Stages
+pub mod Messages
+pub mod Faults
+pub mod Runs
+pub mod Ranges
+pub mod Matches
+pub mod Written
