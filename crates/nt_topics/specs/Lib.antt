@@ -1,0 +1,4 @@
+pub mod Names
+pub mod Paths
+pub mod Properties
+pub mod TreeCode
