@@ -1,0 +1,10 @@
+//! What a connection wants: its subscriptions.
+#![tactic(auto)]
+
+mod set;
+mod sub;
+mod wish;
+
+pub use set::{Added, SubSet};
+pub use sub::{Names, Options, Sub};
+pub use wish::Wanted;

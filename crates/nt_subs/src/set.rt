@@ -1,0 +1,175 @@
+//! The subscriptions of a connection.
+
+ghost use Rattle.std.specs.Prelude.{◌≡◌, ◌<◌, ◌≤◌, ◌+◌, ◌-◌, ◌^◌, true, [], length, min, slice_get, Some, IfOk, OnOk, OnErr, Ok, Err};
+ghost use Rattle.nt_subs.specs.Subscriptions.{AreByUid, added, after, are_within, has_uid, place_of, size_of, without_sub};
+ghost use Rattle.nt_subs.specs.Wishes.{wanted};
+
+use crate::wish::wish;
+use crate::{Sub, Wanted};
+use std::alloc::{AllocError, Global};
+use std::cmp::Ordering;
+use std::marker::Model;
+
+/// The most subscriptions of a connection.
+pub const MOST_SUBS: usize = 1024;
+
+/// The most bytes of a connection's subscription names, where each counts 8 more.
+pub const MOST_SIZE: usize = 131_072;
+
+/// What adding a subscription is answered.
+#[derive(Clone, Copy, Debug, PartialEq, Eq)]
+pub enum Added {
+    /// It is new.
+    New,
+    /// It stands in place of the one that had its uid.
+    Replaced,
+    /// A limit would be passed, and nothing was changed.
+    TooMany,
+}
+
+/// The subscriptions of a connection. Contracts see the list of each with its uid, by rising uid.
+#[derive(Debug, Drop)]
+pub struct SubSet {
+    entries: Vec<(i64, Sub)>,
+    // the sum of the sizes
+    size: usize,
+}
+
+impl Model for SubSet {
+    ghost use Rattle.nt_subs.specs.Subscriptions.{Subs, IsKept};
+
+    ghost Value = { Subs };
+
+    ghost view = { λ s. s.entries.items };
+
+    ghost invariant = { λ s. IsKept s.entries.items s.size };
+}
+
+impl SubSet {
+    /// No subscriptions.
+    pub fn new(alloc: Global) -> SubSet
+        ensures { result ≡ [] }
+    {
+        SubSet {
+            entries: Vec::new(alloc),
+            size: 0,
+        }
+    }
+
+    /// Adds a subscription at its uid, in place of any that stands there. `TooMany` comes exactly
+    /// where afterwards there would be more than 1,024, or their names would have more than 131,072
+    /// bytes, each with 8 more. It fails for want of memory alone. Then, and at `TooMany`, the set
+    /// is as it was.
+    pub fn add(&mut self, uid: i64, sub: Sub) -> Result<Added, AllocError>
+        ensures answer { IfOk result (λ answer. answer ≡ added uid sub self.old) }
+        ensures subs { OnOk result (self.new ≡ after uid sub self.old) }
+        ensures err { OnErr result (self.new ≡ self.old) }
+    {
+        match place(self.entries.as_slice(), uid) {
+            Ok(place) => Ok(self.replace(place, uid, sub)),
+            Err(place) => self.insert(place, uid, sub),
+        }
+    }
+
+    /// Takes out the subscription of this uid, and says whether there was one.
+    pub fn remove(&mut self, uid: i64) -> bool
+        ensures found { result ≡ has_uid uid self.old }
+        ensures subs { self.new ≡ without_sub uid self.old }
+    {
+        match place(self.entries.as_slice(), uid) {
+            Ok(place) => {
+                self.size -= size(&self.entries[place].1);
+                self.entries.remove(place);
+                true
+            }
+            Err(_) => false,
+        }
+    }
+
+    /// How much a topic is wanted: the greatest wish of all subscriptions. It takes no memory.
+    pub fn matches(&self, name: &str) -> Wanted
+        ensures { result ≡ wanted self.now name.now }
+    {
+        let mut greatest = Wanted::No;
+        for entry in &self.entries {
+            greatest = greatest.greater(wish(&entry.1, name));
+        }
+        greatest
+    }
+
+    /// The number of subscriptions.
+    pub fn len(&self) -> usize
+        ensures count { result ≡ length self.now }
+        ensures within { are_within self.now ≡ true }
+        ensures by_uid { AreByUid self.now }
+    {
+        self.entries.len()
+    }
+
+    /// The subscription at a place, by rising uid, and its uid.
+    pub fn at(&self, place: usize) -> (i64, &Sub)
+        requires { place < length self.now }
+        ensures { slice_get self.now place ≡ Some (result.0, result.1.now) }
+    {
+        let entry = &self.entries[place];
+        (entry.0, &entry.1)
+    }
+
+    /// Adds a subscription in place of the one that stands there.
+    fn replace(&mut self, place: usize, uid: i64, sub: Sub) -> Added
+        requires { place_of uid self.old ≡ Ok place }
+        ensures answer { result ≡ added uid sub self.old }
+        ensures subs { self.new ≡ after uid sub self.old }
+    {
+        let others = self.size - size(&self.entries[place].1);
+        let size = size(&sub);
+        if MOST_SIZE - others < size {
+            return Added::TooMany;
+        }
+        self.entries[place] = (uid, sub);
+        self.size = others + size;
+        Added::Replaced
+    }
+
+    /// Adds a subscription where none stands.
+    fn insert(&mut self, place: usize, uid: i64, sub: Sub) -> Result<Added, AllocError>
+        requires { place_of uid self.old ≡ Err place }
+        ensures answer { IfOk result (λ answer. answer ≡ added uid sub self.old) }
+        ensures subs { OnOk result (self.new ≡ after uid sub self.old) }
+        ensures err { OnErr result (self.new ≡ self.old) }
+    {
+        let size = size(&sub);
+        if self.entries.len() >= MOST_SUBS || MOST_SIZE - self.size < size {
+            return Ok(Added::TooMany);
+        }
+        self.entries.insert(place, (uid, sub))?;
+        self.size += size;
+        Ok(Added::New)
+    }
+}
+
+/// The place of a uid, or else the one where it would stand.
+fn place(entries: &[(i64, Sub)], uid: i64) -> Result<usize, usize>
+    ensures { result ≡ place_of uid entries.now }
+{
+    for (place, entry) in entries.iter().enumerate() {
+        match uid.cmp(&entry.0) {
+            Ordering::Less => return Err(place),
+            Ordering::Equal => return Ok(place),
+            Ordering::Greater => {}
+        }
+    }
+    Err(entries.len())
+}
+
+/// The bytes of a subscription's names, and 8 for each name, or the greatest number where they are
+/// more.
+fn size(sub: &Sub) -> usize
+    ensures { result ≡ min (size_of sub.now) (2 ^ 64 - 1) }
+{
+    let mut size: usize = 0;
+    for name in sub.names.as_slice() {
+        size = size.saturating_add(8).saturating_add(name.as_str().len());
+    }
+    size
+}

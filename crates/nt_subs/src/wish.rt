@@ -1,0 +1,84 @@
+//! How much a topic is wanted.
+
+ghost use Rattle.std.specs.Prelude.{◌≡◌};
+ghost use Rattle.nt_subs.specs.Wishes.{is_meant, is_matched, strength, wish, greater};
+
+use crate::{Options, Sub};
+use nt_topics::is_special;
+
+/// How much a topic is wanted, from least to most ("Subscription Options").
+#[derive(Clone, Copy, Debug, PartialEq, Eq, PartialOrd, Ord)]
+pub enum Wanted {
+    /// Not at all.
+    No,
+    /// It is announced, and no value is sent.
+    TopicOnly,
+    /// It is announced, and its newest value is sent.
+    Newest,
+    /// It is announced, and each value is sent.
+    All,
+}
+
+impl Wanted {
+    /// The greater of two wishes.
+    pub fn greater(self, other: Wanted) -> Wanted
+        ensures { result ≡ greater self other }
+    {
+        match (self, other) {
+            (Wanted::No, other) => other,
+            (Wanted::All, _) => Wanted::All,
+            (Wanted::TopicOnly, Wanted::No) => Wanted::TopicOnly,
+            (Wanted::TopicOnly, other) => other,
+            (Wanted::Newest, Wanted::All) => Wanted::All,
+            (Wanted::Newest, _) => Wanted::Newest,
+        }
+    }
+}
+
+/// How much a subscription wants a topic.
+pub(crate) fn wish(sub: &Sub, name: &str) -> Wanted
+    ensures { result ≡ wish sub.now name.now }
+{
+    if is_matched(sub, name) {
+        strength(sub.options)
+    } else {
+        Wanted::No
+    }
+}
+
+/// What the options ask for.
+fn strength(options: Options) -> Wanted
+    ensures { result ≡ strength options }
+{
+    if options.topicsonly {
+        Wanted::TopicOnly
+    } else if options.all {
+        Wanted::All
+    } else {
+        Wanted::Newest
+    }
+}
+
+/// Whether one of the subscription's names means a topic.
+fn is_matched(sub: &Sub, name: &str) -> bool
+    ensures { result ≡ is_matched sub.now name.now }
+{
+    for given in sub.names.as_slice() {
+        if is_meant(sub.options.prefix, given.as_str(), name) {
+            return true;
+        }
+    }
+    false
+}
+
+/// Whether a name that a subscription gives means a topic: it is the topic's, or its prefix. A
+/// special name has only special prefixes.
+fn is_meant(prefix: bool, given: &str, name: &str) -> bool
+    ensures { result ≡ is_meant prefix given.now name.now }
+{
+    if prefix {
+        name.as_bytes().starts_with(given.as_bytes()) && (!is_special(name) || is_special(given))
+    } else {
+        given == name
+    }
+}
