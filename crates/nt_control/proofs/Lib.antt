@@ -1,0 +1,4 @@
+pub mod Members
+pub mod Arrays
+pub mod Depths
+pub mod Subscriptions

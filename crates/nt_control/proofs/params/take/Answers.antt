@@ -1,0 +1,14 @@
+use Rattle.std.proofs.Common.{◌∙◌, ap, option_map}
+use Rattle.serde_json.proofs.Views.{view-lookup}
+use Rattle.serde_json.specs.Find.{get_member}
+use Rattle.serde_json.specs.View.{view, members_view}
+use Rattle.nt_control.proofs.Members.{get_member-remove_entry}
+use Rattle.nt_control.proofs.params.take.Goals as goal
+
+pub returns-clause-value : goal.returns-clause-value
+returns-clause-value c = ap (option_map view) c.remove.ensures.value ∙ view-lookup c.args.key.now c.args.members.now.entries
+
+pub returns-clause-others : goal.returns-clause-others
+returns-clause-others c =
+    λ other differ. ap (λ es. get_member other (members_view es)) c.remove.ensures.entries
+    ∙ get_member-remove_entry c.args.key.now other c.args.members.now.entries differ
