@@ -1,0 +1,5 @@
+//! Worked rows of the server: whole runs of acts.
+#![tactic(auto)]
+
+#[cfg(test)]
+mod tests;
