@@ -9,10 +9,10 @@ use Rattle.wpilog_read.specs.declared.fault.LogKind.TheVariants.{NotBuilt, Trunc
 use Rattle.wpilog_read.specs.declared.fault.Stop.{Stop}
 use Rattle.wpilog_read.specs.declared.fault.Stop.TheVariants.{Wanting, Known}
 use Rattle.wpilog_read.specs.Meaning.{AreItems, IsLog, IsHeaderKind, IsHeaderFault, IsRecordFault, Means}
-use Rattle.wpilog_read.specs.Run.{Reading, start, behind_header, next_of, settle, at_place, ending, Reads, Ends, IsReading}
+use Rattle.wpilog_read.specs.Run.{Reading, start, behind_header, next_of, settle, at_place, ending, Reads, Ends, IsReading, Stands}
 use Rattle.wpilog_read.proofs.Steps.{parts_then, ok_is, ok_no_err}
 use Rattle.wpilog_read.proofs.Stable.{record-forward}
-use Rattle.wpilog_read.proofs.Runs.{settle-ok, settle-err, next-settle, begun-opened, next-closed, Reads-opened, Reads-closed, IsLast, Ends-last, one-reading}
+use Rattle.wpilog_read.proofs.Runs.{settle-ok, settle-err, next-settle, begun-opened, next-closed, Reads-opened, Reads-closed, IsLast, Ends-last, one-reading, Stands-begins}
 use Rattle.wpilog_read.proofs.Headers.{stop_of, header-closed, header-or, opened, header-opens}
 use Rattle.wpilog_read.proofs.Units.{next-record, next-takes, next-again, LeftBy, ends-left, left-ends}
 
@@ -163,6 +163,10 @@ means-reading bytes items (Some fault) (inr h) =
 -- bytes have one meaning
 pub means-one : (bytes : List ℕ) (items others : List ItemAt) (fault other : Option LogFault) → Means bytes items fault → Means bytes others other → (items ≡ others) × (fault ≡ other)
 means-one bytes items others fault other a b = one-reading bytes items others fault other (means-reading bytes items fault a) (means-reading bytes others other b)
+
+-- what a reader gave so far begins what the bytes mean
+pub items-begin : (bytes : List ℕ) (items others : List ItemAt) (r : Reading) (fault : Option LogFault) → Stands bytes items r → Means bytes others fault → (more : List ItemAt) × (others ≡ items ++ more)
+items-begin bytes items others r fault stands means = Stands-begins bytes items others r fault stands (means-reading bytes others fault means)
 
 -- a run to where no item follows
 record Run (r : Reading) : Type 0 where

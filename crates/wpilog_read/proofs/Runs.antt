@@ -135,6 +135,17 @@ Reads-one (x ∷ xs) (y ∷ ys) r s t a b last_s last_t =
     let others = Reads-one xs ys b.0 s t (subst (λ (w : Reading). Reads w xs s) state a.2) b.2 last_s last_t in
     (ap (λ (w : ItemAt). w ∷ xs) item ∙ ap (λ (w : List ItemAt). y ∷ w) others.0, others.1)
 
+-- a run begins each run from the same state to where no item follows
+pub Reads-begins : (xs ys : List ItemAt) (r s t : Reading) → Reads r xs s → Reads r ys t → IsLast t → (more : List ItemAt) × (ys ≡ xs ++ more)
+Reads-begins [] ys r s t a b last = (ys, refl)
+Reads-begins (x ∷ xs) [] r s t a b last = absurd (last (x, a.0) (sym (next-same r t b) ∙ a.1))
+Reads-begins (x ∷ xs) (y ∷ ys) r s t a b last =
+    let same : (x, a.0) ≡ (y, b.0) = ok_is (x, a.0) (y, b.0) (sym a.1 ∙ b.1) in
+    let item : x ≡ y = ap (λ (w : ItemAt × Reading). w.0) same in
+    let state : a.0 ≡ b.0 = ap (λ (w : ItemAt × Reading). w.1) same in
+    let more = Reads-begins xs ys b.0 s t (subst (λ (w : Reading). Reads w xs s) state a.2) b.2 last in
+    (more.0, ap (λ (w : List ItemAt). y ∷ w) more.1 ∙ ap (λ (w : ItemAt). w ∷ (xs ++ more.0)) (sym item))
+
 -- where reading ends no item follows
 pub Ends-last : (next : Result (ItemAt × Reading) Stop) (s : Reading) (fault : Option LogFault) → Ends next s fault → (y : ItemAt × Reading) → next ≡ Ok y → ⊥
 Ends-last (Ok x) s fault ends y e = ends
@@ -145,6 +156,15 @@ Ends-one : (next : Result (ItemAt × Reading) Stop) (s : Reading) (fault other :
 Ends-one (Ok x) s fault other a b = absurd a
 Ends-one (Err Wanting) s fault other a b = a ∙ sym b
 Ends-one (Err (Known kind)) s fault other a b = a ∙ sym b
+
+-- the run of a reader begins each reading of what it was fed
+stands-begins : (fault : Option LogFault) (bytes : List ℕ) (items others : List ItemAt) (r : Reading) (other : Option LogFault) → StandsBy fault bytes items r → IsReading bytes others other → (more : List ItemAt) × (others ≡ items ++ more)
+stands-begins None bytes items others r other stands reading = Reads-begins items others (start bytes) r reading.0 stands reading.1 (Ends-last (next_of reading.0) (settle reading.0) other reading.2)
+stands-begins (Some fault) bytes items others r other stands reading = Reads-begins items others (start bytes) stands.0 reading.0 stands.1 reading.1 (Ends-last (next_of reading.0) (settle reading.0) other reading.2)
+
+-- the items that a reader gave begin each reading of what it was fed
+pub Stands-begins : (bytes : List ℕ) (items others : List ItemAt) (r : Reading) (fault : Option LogFault) → Stands bytes items r → IsReading bytes others fault → (more : List ItemAt) × (others ≡ items ++ more)
+Stands-begins bytes items others r fault stands reading = stands-begins r.fault bytes items others r fault stands reading
 
 -- bytes have one reading
 pub one-reading : (bytes : List ℕ) (items others : List ItemAt) (fault other : Option LogFault) → IsReading bytes items fault → IsReading bytes others other → (items ≡ others) × (fault ≡ other)

@@ -10,7 +10,7 @@ ghost use Rattle.wpilog_read.specs.declared.fault.LogKind.{LogKind};
 ghost use Rattle.wpilog_read.specs.declared.fault.LogKind.TheVariants.{NotBuilt, Truncated};
 ghost use Rattle.wpilog_read.specs.declared.fault.Stop.TheVariants.{Wanting, Known};
 ghost use Rattle.wpilog_read.specs.Meaning.{IsLog, IsUnit, IsHeaderKind, IsRecordKind, Means};
-ghost use Rattle.wpilog_read.specs.Run.{Reading, start, next_of, Reads, IsReading};
+ghost use Rattle.wpilog_read.specs.Run.{Reading, start, next_of, Reads, IsReading, Stands};
 
 /// One step of reading, by the grammar. Before the header nothing is read where fewer bytes than
 /// the header's are left, and a fault where others are there. Behind it an item is read exactly
@@ -47,8 +47,9 @@ pub fn step_is_unit()
         → next_of r ≡ Err (Known NotBuilt) }
 {}
 
-/// What is read is what the bytes mean, and each byte string means exactly one thing. A fault
-/// stands at the end of the longest front that is a whole log, and what was read so far is one.
+/// What is read is what the bytes mean, and each byte string means exactly one thing. What a reader
+/// gave so far begins the items that the bytes mean. A fault stands at the end of the longest front
+/// that is a whole log, and what was read so far is one.
 pub fn reading_is_meaning()
     ensures means { (bytes : List ℕ) (items : List ItemAt) (fault : Option LogFault)
         → IsReading bytes items fault → Means bytes items fault }
@@ -57,6 +58,8 @@ pub fn reading_is_meaning()
     ensures some { (bytes : List ℕ) → (items : List ItemAt) × (fault : Option LogFault) × Means bytes items fault }
     ensures one { (bytes : List ℕ) (items others : List ItemAt) (fault other : Option LogFault)
         → Means bytes items fault → Means bytes others other → (items ≡ others) × (fault ≡ other) }
+    ensures begins { (bytes : List ℕ) (items others : List ItemAt) (r : Reading) (fault : Option LogFault)
+        → Stands bytes items r → Means bytes others fault → (more : List ItemAt) × (others ≡ items ++ more) }
     ensures longest { (bytes : List ℕ) (items others : List ItemAt) (fault : LogFault) (n : ℕ) (live : Entries)
         → Means bytes items (Some fault) → n ≤ length bytes → IsLog (take n bytes) others live → n ≤ fault.at }
     ensures front { (bytes : List ℕ) (items : List ItemAt) (r : Reading) → r.begun ≡ true
