@@ -60,12 +60,51 @@ impl<R: Files> Write for LateFile<'_, R> {
     }
 }
 
+/// A source over any reader of the standard library, such as standard input.
+#[derive(Drop)]
+pub struct ReaderSource<R: Read> {
+    inner: R,
+    faults: u64,
+}
+
+impl<R: Read> ReaderSource<R> {
+    /// A source that reads from `inner`.
+    pub fn new(inner: R) -> ReaderSource<R>
+        ensures left { ⟦<ReaderSource<R> as Source>⟧.left result ≡ R.remaining inner }
+        ensures faults { ⟦<ReaderSource<R> as Source>⟧.faults result ≡ 0 }
+    {
+        ReaderSource { inner, faults: 0 }
+    }
+
+    /// How many reads failed.
+    pub fn faults(&self) -> u64
+        ensures { result ≡ ⟦<ReaderSource<R> as Source>⟧.faults self.now }
+    {
+        self.faults
+    }
+}
+
+impl<R: Read> Source for ReaderSource<R> {
+    ghost left = { λ s. R.remaining s.inner };
+
+    ghost faults = { λ s. s.faults };
+
+    ghost aside = { λ _. empty_aside };
+
+    fn read(&mut self, buf: &mut [u8]) -> Result<usize, Failed> {
+        let result = self.inner.read(buf);
+        if result.is_err() {
+            self.faults = self.faults.saturating_add(1);
+        }
+        result.map_err(|_| Failed)
+    }
+}
+
 /// A file to be read, which is opened at the first read. An open that fails is a fault, and the
 /// next read tries it again.
 #[derive(Drop)]
 pub struct FileSource<'a, R: Files> {
-    file: LateFile<'a, R>,
-    faults: u64,
+    inner: ReaderSource<LateFile<'a, R>>,
 }
 
 impl<'a, R: Files> FileSource<'a, R> {
@@ -76,8 +115,7 @@ impl<'a, R: Files> FileSource<'a, R> {
         let mut options = OpenOptions::new();
         options.read(true);
         FileSource {
-            file: LateFile::new(files, path, options),
-            faults: 0,
+            inner: ReaderSource::new(LateFile::new(files, path, options)),
         }
     }
 
@@ -85,23 +123,19 @@ impl<'a, R: Files> FileSource<'a, R> {
     pub fn faults(&self) -> u64
         ensures { result ≡ ⟦<FileSource<'a, R> as Source>⟧.faults self.now }
     {
-        self.faults
+        self.inner.faults
     }
 }
 
 impl<R: Files> Source for FileSource<'_, R> {
     ghost left = { λ _. None };
 
-    ghost faults = { λ s. s.faults };
+    ghost faults = { λ s. s.inner.faults };
 
     ghost aside = { λ _. empty_aside };
 
     fn read(&mut self, buf: &mut [u8]) -> Result<usize, Failed> {
-        let result = self.file.read(buf);
-        if result.is_err() {
-            self.faults = self.faults.saturating_add(1);
-        }
-        result.map_err(|_| Failed)
+        self.inner.read(buf)
     }
 }
 

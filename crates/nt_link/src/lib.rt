@@ -9,7 +9,7 @@ mod source;
 #[cfg(test)]
 mod tests;
 
-pub use file::{FileSink, FileSource, WriterSink};
+pub use file::{FileSink, FileSource, ReaderSource, WriterSink};
 pub use memory::{MemSink, MemSource};
 pub use sink::{Sink, Stopped, write_all};
 pub use source::{Failed, Source};
