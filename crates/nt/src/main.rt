@@ -2,9 +2,9 @@
 #![tactic(auto)]
 
 use nt_cli::{UsageFault, run_tool, tool_files};
-use nt_link::{FileSource, MemSink, MemSource, WriterSink};
+use nt_link::{FileSource, MemSink, MemSource, ReaderSource, WriterSink};
 use std::alloc::AllocError;
-use std::io::ErrorKind;
+use std::io::{ErrorKind, Input};
 use std::process::ExitCode;
 use std::rt::{Env, Files};
 use std::{env, io};
@@ -28,24 +28,25 @@ fn words<R: Env + AllocGlobal>(rt: &R) -> Result<Vec<String>, AllocError> {
     }
 }
 
-/// Runs the tool over the file that its words name and standard output. Words that name none get an empty source.
-fn run<R: Files + Print + AllocGlobal>(rt: &R, words: &[String]) -> u8 {
+/// Runs the tool that these words ask for, over the file that they name or standard input, and standard
+/// output. Words that no tool has get an empty source.
+fn run<R: Files + Input + Print + AllocGlobal>(rt: &R, words: &[String]) -> u8 {
     let alloc = rt.alloc();
-    let path = match tool_files(alloc, words) {
-        Ok(files) => files.source,
-        Err(UsageFault::Words) => None,
-        Err(UsageFault::Memory) => return OUT_OF_MEMORY,
-    };
     let mut sink = MemSink::new(alloc, Vec::new(alloc));
     let mut out = WriterSink::new(io::writer(rt));
-    match path {
-        Some(path) => {
+    match tool_files(alloc, words).map(|files| files.source) {
+        Ok(Some(path)) => {
             let mut source = FileSource::new(rt, path);
             run_tool(alloc, words, &mut source, &mut sink, &mut out)
         }
-        None => {
+        Ok(None) => {
+            let mut source = ReaderSource::new(rt.reader());
+            run_tool(alloc, words, &mut source, &mut sink, &mut out)
+        }
+        Err(UsageFault::Words) => {
             let mut source = MemSource::new(Vec::new(alloc), Vec::new(alloc));
             run_tool(alloc, words, &mut source, &mut sink, &mut out)
         }
+        Err(UsageFault::Memory) => OUT_OF_MEMORY,
     }
 }

@@ -1,2 +1,12 @@
 pub mod Inputs
+pub mod Escapes
 pub mod Replies
+pub mod Shows
+pub mod TellLines
+pub mod LineFeeds
+pub mod Rounds
+pub mod LineReads
+pub mod Printing
+pub mod DeskSteps
+pub mod Endings
+pub mod Turns

@@ -1,4 +1,10 @@
 pub mod Words
 pub mod Input
 pub mod Lines
+pub mod ItemLines
+pub mod Reply
+pub mod LineReading
+pub mod Desk
+pub mod DeskRun
 pub mod Tool
+pub mod Show

@@ -3,8 +3,10 @@
 ghost use Rattle.std.specs.Prelude.{◌≡◌, ◌≢◌, ◌≤◌, ◌⊎◌, List, ℕ, Some, IfOk, IsErrOf, length};
 ghost use Rattle.std.specs.Io.KnownBytes.{Keeps};
 ghost use Rattle.nt_link.specs.Causes.{Rose, StaysAtEnd};
+ghost use Rattle.nt_cli.specs.declared.words.LogTool.TheVariants.{Check};
 ghost use Rattle.nt_cli.specs.Input.{most_bytes};
-ghost use Rattle.nt_cli.specs.Tool.{Reply, ChecksLog, IsCheckReply, ChecksSource, IsGiven, IsCutShort};
+ghost use Rattle.nt_cli.specs.Reply.{Reply, IsGiven, IsFront, IsCutShort};
+ghost use Rattle.nt_cli.specs.Tool.{RepliesToLog, IsReply, RepliesToSource};
 
 use crate::input::{Input, InputFault, read_all};
 use crate::output::tell;
@@ -16,16 +18,18 @@ use wpilog_read::{LogReader, count_items};
 /// Checks what the source has left as a log, prints the reply and answers its status.
 pub fn check<R: Source, O: Sink>(alloc: Global, source: &mut R, out: &mut O) -> u8
     ensures done { result ≤ 2 → (reply : Reply)
-        × ChecksSource (R.left source.old) (R.left source.new) reply
+        × RepliesToSource Check (R.left source.old) (R.left source.new) reply
         × IsGiven reply result (O.taken out.old) (O.taken out.new) }
     ensures exact { (bytes : List ℕ) (reply : Reply) → R.left source.old ≡ Some bytes
-        → IsCheckReply bytes reply
+        → IsReply Check bytes reply
         → result ≤ 2 → IsGiven reply result (O.taken out.old) (O.taken out.new) }
+    ensures front { (bytes : List ℕ) (reply : Reply) → R.left source.old ≡ Some bytes
+        → IsReply Check bytes reply → IsFront reply (O.taken out.old) (O.taken out.new) }
     ensures memory { result ≡ 3 → Keeps (O.taken out.old) (O.taken out.new) }
     ensures fault { result ≡ 4 →
         (Rose (R.faults source.old) (R.faults source.new) × Keeps (O.taken out.old) (O.taken out.new))
         ⊎ (Rose (O.faults out.old) (O.faults out.new) × (reply : Reply)
-        × ChecksSource (R.left source.old) (R.left source.new) reply
+        × RepliesToSource Check (R.left source.old) (R.left source.new) reply
         × IsCutShort reply (O.taken out.old) (O.taken out.new)) }
     ensures not_usage { result ≢ 2 }
     ensures most { result ≤ 4 }
@@ -46,9 +50,9 @@ pub fn check<R: Source, O: Sink>(alloc: Global, source: &mut R, out: &mut O) -> 
 
 /// The reply to what the source has left.
 fn reply_to<R: Source>(alloc: Global, source: &mut R) -> Result<ToolReply, InputFault>
-    ensures checks { IfOk result (ChecksSource (R.left source.old) (R.left source.new)) }
+    ensures checks { IfOk result (RepliesToSource Check (R.left source.old) (R.left source.new)) }
     ensures only { IfOk result (λ reply. (bytes : List ℕ) (other : Reply)
-        → R.left source.old ≡ Some bytes → IsCheckReply bytes other → other ≡ reply) }
+        → R.left source.old ≡ Some bytes → IsReply Check bytes other → other ≡ reply) }
     ensures low { IfOk result (λ reply. reply.status ≤ 1) }
     ensures failed { IsErrOf result InputFault.Failed →
         Rose (R.faults source.old) (R.faults source.new) }
@@ -65,8 +69,8 @@ fn reply_to<R: Source>(alloc: Global, source: &mut R) -> Result<ToolReply, Input
 /// The reply to a log of these bytes.
 fn reply_to_log(alloc: Global, bytes: &[u8]) -> Result<ToolReply, AllocError>
     requires { length bytes.now ≤ most_bytes }
-    ensures checks { IfOk result (ChecksLog bytes.now) }
-    ensures only { IfOk result (λ reply. (other : Reply) → ChecksLog bytes.now other
+    ensures checks { IfOk result (RepliesToLog Check bytes.now) }
+    ensures only { IfOk result (λ reply. (other : Reply) → RepliesToLog Check bytes.now other
         → other ≡ reply) }
 {
     let mut reader = LogReader::new(alloc);

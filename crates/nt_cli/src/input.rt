@@ -12,7 +12,7 @@ use std::alloc::{AllocError, Global};
 pub const MOST_BYTES: usize = 1 << 40;
 
 /// How many bytes are asked for at a time.
-const PIECE: usize = 1 << 16;
+pub const PIECE: usize = 1 << 16;
 
 /// What a source had left.
 #[derive(Debug, Drop)]

@@ -2,11 +2,18 @@
 #![tactic(auto)]
 
 mod check;
+mod desk;
 mod input;
+mod item_line;
+mod laws;
+mod line;
 mod output;
+mod piece;
 mod reply;
+mod show;
 mod tool;
 mod words;
 
+pub use laws::line_tells_item;
 pub use tool::run_tool;
 pub use words::{ToolFiles, UsageFault, tool_files};

@@ -1,7 +1,7 @@
 //! What the tools reply.
 
-ghost use Rattle.std.specs.Prelude.{◌≡◌, IfOk};
-ghost use Rattle.nt_cli.specs.Tool.{check_reply, too_many_reply};
+ghost use Rattle.std.specs.Prelude.{◌≡◌, ◌≤◌, IfOk, string_bytes};
+ghost use Rattle.nt_cli.specs.Tool.{check_reply, lines_reply, too_many_reply};
 
 use crate::input::MOST_BYTES;
 use std::alloc::{AllocError, Global};
@@ -17,7 +17,7 @@ pub struct ToolReply {
 
 impl Model for ToolReply {
     ghost use Rattle.std.specs.Prelude.{string_bytes};
-    ghost use Rattle.nt_cli.specs.Tool.{Reply};
+    ghost use Rattle.nt_cli.specs.Reply.{Reply};
 
     ghost Value = { Reply };
 
@@ -46,9 +46,28 @@ impl ToolReply {
         }
     }
 
+    /// The reply of these lines, and behind them the line of the fault if there is one.
+    pub fn of_lines(mut lines: String, fault: Option<LogFault>) -> Result<ToolReply, AllocError>
+        ensures text { IfOk result (λ reply. reply ≡ lines_reply fault (string_bytes lines)) }
+        ensures low { IfOk result (λ reply. reply.status ≤ 1) }
+    {
+        let Some(LogFault { at, kind }) = fault else {
+            return Ok(ToolReply {
+                status: 0,
+                text: lines,
+            });
+        };
+        writeln!(lines, "fault {kind} at {at}")?;
+        Ok(ToolReply {
+            status: 1,
+            text: lines,
+        })
+    }
+
     /// The reply to more bytes than a tool reads.
     pub fn of_too_many(alloc: Global) -> Result<ToolReply, AllocError>
-        ensures { IfOk result (λ reply. reply ≡ too_many_reply) }
+        ensures text { IfOk result (λ reply. reply ≡ too_many_reply) }
+        ensures low { IfOk result (λ reply. reply.status ≤ 1) }
     {
         Ok(ToolReply {
             status: 1,

@@ -1,20 +1,23 @@
 //! The tools: commands that read one source, and end.
 
 ghost use Rattle.std.specs.Prelude.{◌≡◌, ◌≤◌, ◌⊎◌, List, ℕ, Some, None, map, string_bytes};
-ghost use Rattle.std.specs.Io.KnownBytes.{Keeps};
 ghost use Rattle.nt_link.specs.Causes.{Rose, StaysAtEnd};
-ghost use Rattle.nt_cli.specs.Words.{check_file};
-ghost use Rattle.nt_cli.specs.Tool.{Reply, Replies, Decides, IsGiven, IsCutShort};
+ghost use Rattle.nt_cli.specs.Words.{tool_of};
+ghost use Rattle.nt_cli.specs.Reply.{Reply, IsGiven, IsFront};
+ghost use Rattle.nt_cli.specs.Tool.{Replies, Decides, Stops, Unread, Unwritten};
 
 use crate::check::check;
+use crate::desk::desk;
 use crate::output::tell;
-use crate::words::checked_file;
+use crate::show::show;
+use crate::words::{LogTool, Tool, tool_of};
 use nt_link::{Sink, Source};
 use std::alloc::Global;
 
 /// Runs the tool that these words ask for, those behind the program's name, and answers its status:
-/// 0 where it is done, 1 where the log has a fault or the source has more bytes than a tool reads,
-/// 2 where no tool has these words, 3 for want of memory, and 4 where a read or a write failed.
+/// 0 where it is done, 1 where the log has a fault, a line of the desk is too long or the source has
+/// more bytes than a tool reads, 2 where no tool has these words, 3 for want of memory, and 4 where a
+/// read or a write failed.
 pub fn run_tool<R: Source, S: Sink, O: Sink>(
     alloc: Global,
     words: &[String],
@@ -30,19 +33,27 @@ pub fn run_tool<R: Source, S: Sink, O: Sink>(
     ensures exact { (bytes : List ℕ) (reply : Reply) → R.left source.old ≡ Some bytes
         → Replies (map string_bytes words.now) bytes reply
         → result ≤ 2 → IsGiven reply result (O.taken out.old) (O.taken out.new) }
-    // For want of memory nothing is printed.
-    ensures memory { result ≡ 3 → Keeps (O.taken out.old) (O.taken out.new) }
-    // A read failed and nothing is printed, or a write did in the midst of the reply.
+    // Nothing is printed but a front of it in any case.
+    ensures front { (bytes : List ℕ) (reply : Reply) → R.left source.old ≡ Some bytes
+        → Replies (map string_bytes words.now) bytes reply
+        → IsFront reply (O.taken out.old) (O.taken out.new) }
+    // For want of memory nothing is printed, or a front of the reply where a tool prints as it goes.
+    ensures memory { result ≡ 3 → Stops (map string_bytes words.now) (R.left source.old)
+        (R.left source.new) (O.taken out.old) (O.taken out.new) }
+    // A read failed and nothing is printed, or a front of the reply where a tool answers as it reads,
+    // or a write failed in the midst of the reply.
     ensures fault { result ≡ 4 →
-        (Rose (R.faults source.old) (R.faults source.new) × Keeps (O.taken out.old) (O.taken out.new))
-        ⊎ (Rose (O.faults out.old) (O.faults out.new) × (reply : Reply)
-        × Decides (map string_bytes words.now) (R.left source.old) (R.left source.new) reply
-        × IsCutShort reply (O.taken out.old) (O.taken out.new)) }
+        (Rose (R.faults source.old) (R.faults source.new)
+        × Unread (map string_bytes words.now) (R.left source.old) (R.left source.new)
+        (O.taken out.old) (O.taken out.new))
+        ⊎ (Rose (O.faults out.old) (O.faults out.new)
+        × Unwritten (map string_bytes words.now) (R.left source.old) (R.left source.new)
+        (O.taken out.old) (O.taken out.new)) }
     ensures most { result ≤ 4 }
 
     // Words that no tool has are answered by the usage alone, and leave the source untouched.
-    ensures usage { result ≡ 2 → check_file (map string_bytes words.now) ≡ None }
-    ensures unread { check_file (map string_bytes words.now) ≡ None → source.new ≡ source.old }
+    ensures usage { result ≡ 2 → tool_of (map string_bytes words.now) ≡ None }
+    ensures unread { tool_of (map string_bytes words.now) ≡ None → source.new ≡ source.old }
 
     ensures sink { sink.new ≡ sink.old }
     ensures source_later { R.faults source.old ≤ R.faults source.new }
@@ -52,8 +63,12 @@ pub fn run_tool<R: Source, S: Sink, O: Sink>(
     ensures out_end { StaysAtEnd (O.faults out.old) (O.faults out.new) }
     ensures out_aside { O.aside out.new ≡ O.aside out.old }
 {
-    match checked_file(words) {
-        Some(_) => check(alloc, source, out),
-        None => tell(out, 2, "usage\n"),
+    let Some(tool) = tool_of(words) else {
+        return tell(out, 2, "usage\n");
+    };
+    match tool {
+        Tool::Log(LogTool::Check) => check(alloc, source, out),
+        Tool::Log(LogTool::Show) => show(alloc, source, out),
+        Tool::Desk => desk(alloc, source, out),
     }
 }

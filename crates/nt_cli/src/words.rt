@@ -2,12 +2,30 @@
 
 ghost use Rattle.std.specs.Prelude.{◌≡◌, IfOk, IsSome, IsErrOf, None, map, string_bytes};
 ghost use Rattle.std.specs.Option.{option_copied};
-ghost use Rattle.nt_cli.specs.Words.{check_file};
+ghost use Rattle.nt_cli.specs.Words.{log_tool, tool_of, file_of};
 ghost use Rattle.nt_cli.specs.declared.words.UsageFault.TheVariants.{Memory};
 
 use nt_values::Text;
 use std::alloc::{AllocError, Global};
 use thiserror::Error;
+
+/// A tool: a command that reads one source, and ends.
+#[derive(Clone, Copy, Debug, PartialEq, Eq)]
+pub enum Tool {
+    /// Reads the log in a file.
+    Log(LogTool),
+    /// Answers the lines of standard input.
+    Desk,
+}
+
+/// A tool that reads a log.
+#[derive(Clone, Copy, Debug, PartialEq, Eq)]
+pub enum LogTool {
+    /// Tells whether it is whole.
+    Check,
+    /// Prints its items.
+    Show,
+}
 
 /// Why words give no files.
 #[derive(Clone, Copy, Debug, PartialEq, Eq, Error)]
@@ -41,24 +59,49 @@ pub struct ToolFiles {
 ///
 /// `Words` where no tool has these words, and want of memory.
 pub fn tool_files(alloc: Global, words: &[String]) -> Result<ToolFiles, UsageFault>
-    ensures files { IfOk result (λ files. IsSome files.source
-        × (files.source ≡ check_file (map string_bytes words.now))
+    ensures files { IfOk result (λ files. IsSome (tool_of (map string_bytes words.now))
+        × (files.source ≡ file_of (map string_bytes words.now))
         × (files.sink ≡ None)) }
-    ensures words { IsErrOf result UsageFault.Words → check_file (map string_bytes words.now) ≡ None }
+    ensures words { IsErrOf result UsageFault.Words → tool_of (map string_bytes words.now) ≡ None }
 {
-    let file = checked_file(words).ok_or(UsageFault::Words)?;
-    Ok(ToolFiles {
-        source: Some(Text::of(alloc, file)?),
-        sink: None,
-    })
+    if tool_of(words).is_none() {
+        return Err(UsageFault::Words);
+    }
+    let source = match file_of(words) {
+        Some(file) => Some(Text::of(alloc, file)?),
+        None => None,
+    };
+    Ok(ToolFiles { source, sink: None })
 }
 
-/// The file of the words `check FILE`.
-pub fn checked_file(words: &[String]) -> Option<&str>
-    ensures { option_copied result ≡ check_file (map string_bytes words.now) }
+/// The tool that these words ask for.
+pub fn tool_of(words: &[String]) -> Option<Tool>
+    ensures { result ≡ tool_of (map string_bytes words.now) }
 {
     match words {
-        [command, file] if command.as_str() == "check" => Some(file.as_str()),
+        [command] if command.as_str() == "desk" => Some(Tool::Desk),
+        [command, _] => log_tool(command.as_str()).map(Tool::Log),
+        _ => None,
+    }
+}
+
+/// The tool of this name that reads the log in a file.
+fn log_tool(command: &str) -> Option<LogTool>
+    ensures { result ≡ log_tool command.now }
+{
+    match command {
+        "check" => Some(LogTool::Check),
+        "show" => Some(LogTool::Show),
+        _ => None,
+    }
+}
+
+/// The file that they name.
+fn file_of(words: &[String]) -> Option<&str>
+    ensures { option_copied result ≡ file_of (map string_bytes words.now) }
+{
+    match words {
+        [_, file] => Some(file.as_str()),
         _ => None,
     }
 }

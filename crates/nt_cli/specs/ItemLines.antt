@@ -1,0 +1,75 @@
+-- The line of an item of a log.
+use Rattle.std.specs.Prelude.{ℕ, ℤ, pos, negsuc, ◌^◌, ◌<◌, Bool, true, ◌||◌, ◌==◌, ◌/◌, ◌%◌, nat_le, List, [], ◌∷◌, ◌++◌, codes, if◌then◌else◌}
+use Rattle.std.specs.List.{flat_map, All}
+use Rattle.std.specs.Str.{bytes_eq}
+use Rattle.std.specs.Fmt.{decimal, signed_decimal, digit_glyph}
+use Rattle.wpilog_write.specs.declared.item.LogItem.{LogItem}
+use Rattle.wpilog_write.specs.declared.item.LogItem.TheVariants.{Start, Value, Finish}
+use Rattle.wpilog_write.specs.declared.item.LogValue.{LogValue}
+use Rattle.wpilog_write.specs.declared.item.LogValue.TheVariants.{Int64}
+use Rattle.wpilog_read.specs.declared.item_at.ItemAt.{ItemAt}
+
+-- ---- text fields
+
+-- the bytes that a field escapes: controls, the space, `%`, `,`, and all past ASCII
+abbrev pub is_escaped : ℕ → Bool
+is_escaped b = nat_le b 32 || nat_le 127 b || b == 37 || b == 44
+
+-- `%` and the two upper-case hexadecimal digits of the byte
+abbrev pub escape : ℕ → List ℕ
+escape b = 37 ∷ digit_glyph true (b / 16) ∷ digit_glyph true (b % 16) ∷ []
+
+-- a text with each such byte escaped
+abbrev pub escaped : List ℕ → List ℕ
+escaped bytes = flat_map (λ b. if is_escaped b then escape b else b ∷ []) bytes
+
+-- a text: `-` where it is empty, and `%2D` for the text `-`
+abbrev pub field : List ℕ → List ℕ
+field text =
+    if bytes_eq text [] then codes "-"
+    else if bytes_eq text (codes "-") then codes "%2D"
+    else escaped text
+
+-- ---- values
+
+-- a value: its type, and its number in decimal
+abbrev pub value_text : LogValue → List ℕ
+value_text (Int64 n) = codes "i64:" ++ signed_decimal n
+
+-- ---- items
+
+-- what begins each line: the letter, the time and the entry id
+abbrev pub head : List ℕ → ℕ → ℕ → List ℕ
+head letter time id = letter ++ (codes " " ++ (decimal time ++ (codes " " ++ decimal id)))
+
+-- the line of an item, without its line feed
+abbrev pub item_line : LogItem → List ℕ
+item_line (Start time id name typ meta) =
+    head (codes "S") time id ++ (codes " " ++ (field name ++ (codes " " ++ (field typ ++ (codes " " ++ field meta)))))
+item_line (Value time id value) = head (codes "D") time id ++ (codes " " ++ value_text value)
+item_line (Finish time id) = head (codes "F") time id
+
+-- the line of an item with its place
+abbrev pub placed_line : ItemAt → List ℕ
+placed_line x = codes "@" ++ (decimal x.at ++ (codes " " ++ (item_line x.item ++ codes "\n")))
+
+-- the lines of items, one after another
+abbrev pub placed_lines : List ItemAt → List ℕ
+placed_lines xs = flat_map placed_line xs
+
+-- ---- what a line tells
+
+-- a number that an `int64` holds; `negsuc n` is -(n + 1)
+abbrev pub IsInt64 : ℤ → Type 0
+IsInt64 (pos n) = n < 2 ^ 63
+IsInt64 (negsuc n) = n < 2 ^ 63
+
+-- the bytes of a text
+abbrev pub AreBytes : List ℕ → Type 0
+AreBytes text = All (λ b. b < 256) text
+
+-- an item whose times, ids and values fit their types, and whose texts are bytes
+abbrev pub FitsItsTypes : LogItem → Type 0
+FitsItsTypes (Start time id name typ meta) = (time < 2 ^ 64) × (id < 2 ^ 32) × AreBytes name × AreBytes typ × AreBytes meta
+FitsItsTypes (Value time id (Int64 n)) = (time < 2 ^ 64) × (id < 2 ^ 32) × IsInt64 n
+FitsItsTypes (Finish time id) = (time < 2 ^ 64) × (id < 2 ^ 32)
