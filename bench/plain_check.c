@@ -1,147 +1,31 @@
-/* The yardstick of bench/check: reads a WPILOG data log of int64 entries in one plain loop, and prints what
- * `nt check` prints of it. It makes the same tests of lengths and ids; of the texts of a Start it tests the
- * type alone, and not that they are UTF-8. Its status is 0, 1 where the log has a fault, 2 for other
- * words, 3 for want of memory, and 4 where the file or standard output failed. */
-#include <stdint.h>
-#include <stdio.h>
-#include <stdlib.h>
-#include <string.h>
-#include <sys/stat.h>
-
-/* Which ids are live, a bit each. Pages that are never touched take no memory. */
-static uint8_t live[1u << 29];
-
-static int is_live(uint32_t id) { return live[id / 8] >> id % 8 & 1; }
-static void start(uint32_t id) { live[id / 8] |= (uint8_t)(1u << id % 8); }
-static void finish(uint32_t id) { live[id / 8] &= (uint8_t)~(1u << id % 8); }
-
-static uint64_t number(const uint8_t *field, size_t length) {
-    uint64_t n = 0;
-    while (length > 0)
-        n = n << 8 | field[--length];
-    return n;
-}
-
-/* Moves a field of this length from the front of what is left into `field`, if it is there. */
-static int take(const uint8_t **left, const uint8_t *end, size_t length, const uint8_t **field) {
-    if ((size_t)(end - *left) < length)
-        return 0;
-    *field = *left;
-    *left += length;
-    return 1;
-}
-
-/* Takes a number of this length. */
-static int take_number(const uint8_t **left, const uint8_t *end, size_t length, uint64_t *n) {
-    const uint8_t *field;
-    if (!take(left, end, length, &field))
-        return 0;
-    *n = number(field, length);
-    return 1;
-}
-
-/* A string or a payload: a size, and as many bytes. */
-struct text {
-    const uint8_t *bytes;
-    uint64_t size;
-};
-
-static int take_string(const uint8_t **left, const uint8_t *end, struct text *text) {
-    return take_number(left, end, 4, &text->size) && take(left, end, text->size, &text->bytes);
-}
-
-/* "Records" */
-struct record {
-    int spare;
-    uint64_t id, time;
-    struct text payload;
-};
-
-static int take_record(const uint8_t **left, const uint8_t *end, struct record *record) {
-    size_t widths = *(*left)++;
-    record->spare = widths >= 128;
-    return take_number(left, end, widths % 4 + 1, &record->id)
-           && take_number(left, end, widths / 4 % 4 + 1, &record->payload.size)
-           && take_number(left, end, widths / 16 % 8 + 1, &record->time)
-           && take(left, end, record->payload.size, &record->payload.bytes);
-}
-
-/* "Control Records": a Start of an int64 entry that is not live, or a Finish of one that is. */
-static int take_control(const uint8_t *left, const uint8_t *end) {
-    struct text name, type, metadata;
-    uint64_t kind, id;
-    if (!take_number(&left, end, 1, &kind) || !take_number(&left, end, 4, &id))
-        return 0;
-    if (kind == 1) {
-        if (left != end || !is_live((uint32_t)id))
-            return 0;
-        finish((uint32_t)id);
-        return 1;
-    }
-    if (kind != 0 || !take_string(&left, end, &name) || !take_string(&left, end, &type)
-        || !take_string(&left, end, &metadata) || left != end)
-        return 0;
-    if (id == 0 || is_live((uint32_t)id) || type.size != 5 || memcmp(type.bytes, "int64", 5) != 0)
-        return 0;
-    start((uint32_t)id);
-    return 1;
-}
+/* The yardstick of bench/check: reads a log in one plain loop, and prints what `nt check` prints of it. */
+#include "plain_log.h"
 
 /* Where a value and its timestamp go, so that the compiler leaves the reading of them in. */
 volatile uint64_t last_value, last_time;
 
-/* Takes what a record says. */
-static int take_item(const struct record *record) {
-    if (record->spare)
-        return 0;
-    if (record->id == 0)
-        return take_control(record->payload.bytes, record->payload.bytes + record->payload.size);
-    if (!is_live((uint32_t)record->id) || record->payload.size != 8)
-        return 0;
-    last_time = record->time;
-    last_value = number(record->payload.bytes, 8);
-    return 1;
-}
-
-static int fault(const char *kind, size_t at) {
-    printf("fault %s at %zu\n", kind, at);
-    return 1;
-}
-
 static int check(const uint8_t *bytes, size_t size) {
-    static const uint8_t header[12] = {'W', 'P', 'I', 'L', 'O', 'G', 0, 1, 0, 0, 0, 0};
-    const uint8_t *left = bytes, *end = bytes + size, *field;
+    const uint8_t *left = bytes, *end = bytes + size;
+    const char *kind = take_header(&left, end);
     size_t items = 0;
-    if (!take(&left, end, sizeof header, &field))
-        return fault("Truncated", 0);
-    if (memcmp(field, header, sizeof header) != 0)
-        return fault("NotBuilt", 0);
+    if (kind)
+        return fault(kind, 0);
     while (left != end) {
         size_t at = (size_t)(left - bytes);
         struct record record;
+        struct item item;
         if (!take_record(&left, end, &record))
             return fault("Truncated", at);
-        if (!take_item(&record))
+        if (!take_item(&record, &item))
             return fault("NotBuilt", at);
+        if (item.letter == 'D') {
+            last_time = item.time;
+            last_value = item.value;
+        }
         items++;
     }
     printf("items %zu bytes %zu\n", items, size);
     return 0;
 }
 
-int main(int count, char **words) {
-    if (count != 2)
-        return 2;
-    FILE *file = fopen(words[1], "rb");
-    struct stat about;
-    if (!file || fstat(fileno(file), &about) != 0)
-        return 4;
-    size_t size = (size_t)about.st_size;
-    uint8_t *bytes = malloc(size + 1);
-    if (!bytes)
-        return 3;
-    if (fread(bytes, 1, size, file) != size)
-        return 4;
-    int status = check(bytes, size);
-    return fflush(stdout) == 0 ? status : 4;
-}
+int main(int count, char **words) { return run(count, words, check); }
