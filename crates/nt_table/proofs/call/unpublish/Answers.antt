@@ -1,0 +1,70 @@
+use Rattle.std.proofs.Common.{◌≡◌, Some, None, sym, ◌∙◌, ap, rules, w64}
+use Rattle.std.proofs.lemmas.Int.{to_z-of_z}
+use Rattle.std.specs.List.{position}
+use Rattle.nt_table.specs.declared.topic.Cause.TheVariants.{NoSuchUid}
+use Rattle.nt_table.specs.Topics.{has_publisher, without_publisher, unpublish_cause, unpublished}
+use Rattle.nt_table.specs.Changes.{end_of, unpublish_changes}
+use Rattle.nt_table.proofs.Positions.{first-position, position-None, written}
+use Rattle.nt_table.proofs.Calls.{ignored, unchanged, done, counted, unpublish-none, unpublish-first, unpublished-changes, unpublished-topics}
+use Rattle.nt_table.proofs.call.unpublish.Goals as goal
+
+pub returns-in-None-clause-answer : goal.returns-in-None-clause-answer
+returns-in-None-clause-answer c =
+    let found : c.position_of_publisher.result ≡ position (has_publisher c.args.conn c.args.uid) c.deref.result.now =
+    c.position_of_publisher.ensures
+    ∙ ap (λ u. position (has_publisher c.args.conn u) c.deref.result.now) (to_z-of_z w64 c.args.uid c.ranges.uid) in
+    let at : None ≡ position (has_publisher c.args.conn c.args.uid) c.deref.result.now = sym c.in-None.is ∙ found in
+    let none =
+    position-None (has_publisher c.args.conn c.args.uid) c.deref.result.now c.args.topics.now.items c.deref.ensures.value at in
+    ignored (unpublish_cause c.args.topics.now.items c.args.conn c.args.uid) NoSuchUid
+    (unpublish_changes c.args.topics.now.items c.args.conn c.args.uid)
+    (unpublish-none c.args.topics.now.items c.args.conn c.args.uid none)
+
+pub returns-in-None-clause-topics : goal.returns-in-None-clause-topics
+returns-in-None-clause-topics c =
+    let found : c.position_of_publisher.result ≡ position (has_publisher c.args.conn c.args.uid) c.deref.result.now =
+    c.position_of_publisher.ensures
+    ∙ ap (λ u. position (has_publisher c.args.conn u) c.deref.result.now) (to_z-of_z w64 c.args.uid c.ranges.uid) in
+    let at : None ≡ position (has_publisher c.args.conn c.args.uid) c.deref.result.now = sym c.in-None.is ∙ found in
+    let none =
+    position-None (has_publisher c.args.conn c.args.uid) c.deref.result.now c.args.topics.now.items c.deref.ensures.value at in
+    unchanged (unpublish_cause c.args.topics.now.items c.args.conn c.args.uid) NoSuchUid
+    (unpublished c.args.topics.now.items c.args.conn c.args.uid) c.args.topics.now.items
+    (unpublish-none c.args.topics.now.items c.args.conn c.args.uid none)
+
+pub returns-in_ok-changes-in-Some-clause-answer : goal.returns-in_ok-changes-in-Some-clause-answer
+returns-in_ok-changes-in-Some-clause-answer c =
+    let found : c.position_of_publisher.result ≡ position (has_publisher c.args.conn c.args.uid) c.deref.result.now =
+    c.position_of_publisher.ensures
+    ∙ ap (λ u. position (has_publisher c.args.conn u) c.deref.result.now) (to_z-of_z w64 c.args.uid c.ranges.uid) in
+    let at : Some c.in-Some.i ≡ position (has_publisher c.args.conn c.args.uid) c.deref.result.now =
+    sym c.in-Some.is ∙ found in
+    let first =
+    first-position (has_publisher c.args.conn c.args.uid) c.deref.result.now c.args.topics.now.items c.in-Some.i
+    c.index_mut.result.now c.deref.ensures.value at c.index_mut.ensures.value in
+    let gone : c.drop_publisher.new.topic ≡ without_publisher c.args.conn c.args.uid c.index_mut.result.now = search rules in
+    let now : c.index.result.now ≡ c.drop_publisher.new.topic =
+    written c.args.topics.now.items c.in-Some.i c.drop_publisher.new.topic c.index.result.now first.within c.index.ensures in
+    done (unpublish_cause c.args.topics.now.items c.args.conn c.args.uid) c.in_ok-changes-in-Some.changes
+    (unpublish_changes c.args.topics.now.items c.args.conn c.args.uid)
+    (unpublish-first c.args.topics.now.items c.args.conn c.args.uid c.in-Some.i c.index_mut.result.now first)
+    (c.in_ok-changes-in-Some.ensures ∙ ap end_of (now ∙ gone)
+    ∙ unpublished-changes c.args.topics.now.items c.args.conn c.args.uid c.in-Some.i c.index_mut.result.now first)
+
+pub returns-in_ok-changes-in-Some-clause-topics : goal.returns-in_ok-changes-in-Some-clause-topics
+returns-in_ok-changes-in-Some-clause-topics c =
+    let found : c.position_of_publisher.result ≡ position (has_publisher c.args.conn c.args.uid) c.deref.result.now =
+    c.position_of_publisher.ensures
+    ∙ ap (λ u. position (has_publisher c.args.conn u) c.deref.result.now) (to_z-of_z w64 c.args.uid c.ranges.uid) in
+    let at : Some c.in-Some.i ≡ position (has_publisher c.args.conn c.args.uid) c.deref.result.now =
+    sym c.in-Some.is ∙ found in
+    let first =
+    first-position (has_publisher c.args.conn c.args.uid) c.deref.result.now c.args.topics.now.items c.in-Some.i
+    c.index_mut.result.now c.deref.ensures.value at c.index_mut.ensures.value in
+    let gone : c.drop_publisher.new.topic ≡ without_publisher c.args.conn c.args.uid c.index_mut.result.now = search rules in
+    counted (unpublish_cause c.args.topics.now.items c.args.conn c.args.uid) c.settle.new.topics.items
+    (unpublished c.args.topics.now.items c.args.conn c.args.uid) c.args.topics.now.items
+    (unpublish-first c.args.topics.now.items c.args.conn c.args.uid c.in-Some.i c.index_mut.result.now first)
+    (c.settle.ensures
+    ∙ unpublished-topics c.args.topics.now.items c.args.conn c.args.uid c.in-Some.i c.index_mut.result.now first
+    c.drop_publisher.new.topic gone)

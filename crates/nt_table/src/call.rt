@@ -1,0 +1,275 @@
+//! The calls on a list of topics.
+
+ghost use Rattle.std.specs.Prelude.{◌≡◌, ◌+◌, ◌<◌, vec_len, pos, option_map, None, [], ◌∷◌, ◌++◌, IfOk, OnOk};
+ghost use Rattle.nt_table.specs.Topics.{change_at, if_counts, left_of, with_update, new_topic, publish_cause, published, next_after, unpublish_cause, unpublished, update_cause, with_props, put_cause, with_put, dropped, restore_cause, restored, restored_topic, at_zero};
+ghost use Rattle.nt_topics.specs.Properties.{updated};
+ghost use Rattle.nt_table.specs.Changes.{outcome_of, update_change, publish_changes, unpublish_changes, update_changes, put_changes, drop_changes, restored_value, restore_changes};
+
+use crate::cause::{publish_cause, restore_cause};
+use crate::edit::{
+    add_publisher, changed, drop_publisher, end_of, ended, ends_of_conn, leave, one, put_to,
+    settle, started, told_name,
+};
+use crate::lookup::{is_too_long, lives_on, position_of_name, position_of_publisher};
+use crate::topic::{Cause, Change, Changes, Outcome, Pub, Pubs, Saved, Timed, Topic};
+use nt_topics::{Props, TopicName, TypeName, Update};
+use nt_values::Value;
+use std::alloc::{AllocError, Global};
+
+/// Begins a topic with its first publisher, which has its type, and tells its start.
+fn begin(
+    alloc: Global,
+    topics: &mut Vec<Topic>,
+    id: u32,
+    name: TopicName,
+    props: Props,
+    publisher: Pub,
+) -> Result<Changes, AllocError>
+    ensures topics { OnOk result (topics.new.items
+        ≡ topics.old.items ++ new_topic id name publisher.typ props (publisher ∷ []) ∷ []) }
+    ensures changes { IfOk result (λ changes. changes ≡ Change.Started (pos id) name publisher.typ props ∷ []) }
+{
+    let typ = publisher.typ.copy(alloc)?;
+    let changes = one(alloc, started(alloc, id, &name, &typ, &props)?)?;
+    let mut pubs = Pubs::empty(alloc);
+    pubs.push(publisher)?;
+    topics.push(Topic {
+        id,
+        name,
+        typ,
+        props,
+        value: None,
+        pubs,
+    })?;
+    Ok(changes)
+}
+
+/// Publishes to the topic of this name, or begins it with the next id, where no cause refuses it.
+fn publish_to(
+    alloc: Global,
+    topics: &mut Vec<Topic>,
+    next: &mut u32,
+    name: TopicName,
+    props: Props,
+    publisher: Pub,
+) -> Result<Changes, AllocError>
+    requires { publish_cause topics.old.items next.old publisher.conn publisher.uid name props ≡ None }
+    ensures changes { IfOk result
+        (λ changes. changes ≡ publish_changes topics.old.items next.old name publisher.typ props) }
+    ensures topics { OnOk result
+        (topics.new.items ≡ published topics.old.items next.old name publisher.typ props publisher) }
+    ensures next { OnOk result (next.new ≡ next_after topics.old.items next.old name) }
+{
+    match position_of_name(topics, name.as_str()) {
+        Some(i) => {
+            add_publisher(&mut topics[i], publisher)?;
+            Ok(Changes::empty(alloc))
+        }
+        None => {
+            let changes = begin(alloc, topics, *next, name, props, publisher)?;
+            *next += 1;
+            Ok(changes)
+        }
+    }
+}
+
+/// Publishes to the topic of this name, or begins it with the next id.
+pub fn publish(
+    alloc: Global,
+    topics: &mut Vec<Topic>,
+    next: &mut u32,
+    name: TopicName,
+    props: Props,
+    publisher: Pub,
+) -> Result<Outcome, AllocError>
+    ensures answer { IfOk result (λ o. o ≡ outcome_of
+        (publish_cause topics.old.items next.old publisher.conn publisher.uid name props)
+        (publish_changes topics.old.items next.old name publisher.typ props)) }
+    ensures topics { OnOk result (topics.new.items ≡ if_counts
+        (publish_cause topics.old.items next.old publisher.conn publisher.uid name props)
+        (published topics.old.items next.old name publisher.typ props publisher) topics.old.items) }
+    ensures next { OnOk result (next.new ≡ if_counts
+        (publish_cause topics.old.items next.old publisher.conn publisher.uid name props)
+        (next_after topics.old.items next.old name) next.old) }
+{
+    match publish_cause(topics, *next, publisher.conn, publisher.uid, &name, &props) {
+        Some(cause) => Ok(Outcome::Ignored(cause)),
+        None => {
+            let changes = publish_to(alloc, topics, next, name, props, publisher)?;
+            Ok(Outcome::Done(changes))
+        }
+    }
+}
+
+/// Takes the publisher out of its topic, and the topic where nothing of it is left.
+pub fn unpublish(
+    alloc: Global,
+    topics: &mut Vec<Topic>,
+    conn: u32,
+    uid: i64,
+) -> Result<Outcome, AllocError>
+    ensures answer { IfOk result (λ o. o ≡ outcome_of
+        (unpublish_cause topics.old.items conn uid) (unpublish_changes topics.old.items conn uid)) }
+    ensures topics { OnOk result (topics.new.items ≡ if_counts
+        (unpublish_cause topics.old.items conn uid)
+        (unpublished topics.old.items conn uid) topics.old.items) }
+{
+    match position_of_publisher(topics, conn, uid) {
+        Some(i) => {
+            drop_publisher(alloc, &mut topics[i], conn, uid);
+            let changes = end_of(alloc, &topics[i])?;
+            settle(topics, i);
+            Ok(Outcome::Done(changes))
+        }
+        None => Ok(Outcome::Ignored(Cause::NoSuchUid)),
+    }
+}
+
+/// Gives the topic its updated properties, and tells it and then its end where it doesn't live on.
+fn update_topic(
+    alloc: Global,
+    topic: &mut Topic,
+    props: Props,
+    update: Update,
+) -> Result<Changes, AllocError>
+    requires { props ≡ updated topic.old.props update }
+    ensures topic { OnOk result (topic.new ≡ with_update update topic.old) }
+    ensures changes { IfOk result (λ changes. changes ≡ update_change update topic.old) }
+{
+    topic.props = props;
+    let mut changes = one(
+        alloc,
+        Change::Props {
+            id: i64::from(topic.id),
+            name: told_name(alloc, &topic.name)?,
+            update,
+        },
+    )?;
+    if !lives_on(topic) {
+        changes.push(ended(alloc, topic)?)?;
+    }
+    Ok(changes)
+}
+
+/// Updates the properties of the topic of this name, and takes it out where nothing of it is left.
+pub fn set_props(
+    alloc: Global,
+    topics: &mut Vec<Topic>,
+    name: &TopicName,
+    update: Update,
+) -> Result<Outcome, AllocError>
+    ensures answer { IfOk result (λ o. o ≡ outcome_of
+        (update_cause topics.old.items name.now update)
+        (update_changes topics.old.items name.now update)) }
+    ensures topics { OnOk result (topics.new.items ≡ if_counts
+        (update_cause topics.old.items name.now update)
+        (with_props topics.old.items name.now update) topics.old.items) }
+{
+    match position_of_name(topics, name.as_str()) {
+        Some(i) => {
+            let props = topics[i].props.updated(alloc, &update)?;
+            if is_too_long(&props) {
+                return Ok(Outcome::Ignored(Cause::PropsFull));
+            }
+            let changes = update_topic(alloc, &mut topics[i], props, update)?;
+            settle(topics, i);
+            Ok(Outcome::Done(changes))
+        }
+        None => Ok(Outcome::Ignored(Cause::NoTopic)),
+    }
+}
+
+/// Puts a value to the topic of the publisher.
+pub fn put(
+    alloc: Global,
+    topics: &mut Vec<Topic>,
+    conn: u32,
+    uid: i64,
+    time: u64,
+    value: Value,
+) -> Result<Outcome, AllocError>
+    ensures answer { IfOk result (λ o. o ≡ outcome_of
+        (put_cause topics.old.items conn uid time value)
+        (put_changes topics.old.items conn uid time value)) }
+    ensures topics { OnOk result (topics.new.items ≡ if_counts
+        (put_cause topics.old.items conn uid time value)
+        (with_put topics.old.items conn uid time value) topics.old.items) }
+{
+    match position_of_publisher(topics, conn, uid) {
+        Some(i) => put_to(alloc, &mut topics[i], conn, uid, time, value),
+        None => {
+            drop(value);
+            Ok(Outcome::Ignored(Cause::NoSuchUid))
+        }
+    }
+}
+
+/// Takes the connection's publishers out, and the topics that end with them.
+pub fn close(alloc: Global, topics: &mut Vec<Topic>, conn: u32) -> Result<Changes, AllocError>
+    ensures changes { IfOk result (λ changes. changes ≡ drop_changes topics.old.items conn) }
+    ensures topics { OnOk result (topics.new.items ≡ dropped topics.old.items conn) }
+{
+    let changes = ends_of_conn(alloc, topics, conn)?;
+    leave(alloc, topics, conn);
+    Ok(changes)
+}
+
+/// What a restored topic tells.
+fn restore_changes(alloc: Global, id: u32, saved: &Saved) -> Result<Changes, AllocError>
+    ensures { IfOk result (λ changes. changes ≡ restore_changes id saved.now) }
+{
+    let start = started(alloc, id, &saved.name, &saved.typ, &saved.props)?;
+    let mut changes = one(alloc, start)?;
+    if let Some(value) = &saved.value {
+        changes.push(changed(alloc, id, &saved.name, 0, value)?)?;
+    }
+    Ok(changes)
+}
+
+/// A saved topic, as it begins again.
+fn restored_topic(alloc: Global, id: u32, saved: Saved) -> Topic
+    ensures { result ≡ restored_topic id saved }
+{
+    Topic {
+        id,
+        name: saved.name,
+        typ: saved.typ,
+        props: saved.props,
+        value: at_zero(saved.value),
+        pubs: Pubs::empty(alloc),
+    }
+}
+
+/// A restored value has the time 0.
+fn at_zero(value: Option<Value>) -> Option<Timed>
+    ensures { result ≡ option_map at_zero value }
+{
+    match value {
+        Some(value) => Some(Timed { time: 0, value }),
+        None => None,
+    }
+}
+
+/// Begins a saved topic with the next id.
+pub fn restore(
+    alloc: Global,
+    topics: &mut Vec<Topic>,
+    next: &mut u32,
+    saved: Saved,
+) -> Result<Outcome, AllocError>
+    ensures answer { IfOk result (λ o. o ≡ outcome_of
+        (restore_cause topics.old.items next.old saved) (restore_changes next.old saved)) }
+    ensures topics { OnOk result (topics.new.items ≡ if_counts
+        (restore_cause topics.old.items next.old saved)
+        (restored topics.old.items next.old saved) topics.old.items) }
+    ensures next { OnOk result (next.new ≡ if_counts
+        (restore_cause topics.old.items next.old saved) (next.old + 1) next.old) }
+{
+    if let Some(cause) = restore_cause(topics, *next, &saved) {
+        return Ok(Outcome::Ignored(cause));
+    }
+    let changes = restore_changes(alloc, *next, &saved)?;
+    topics.push(restored_topic(alloc, *next, saved))?;
+    *next += 1;
+    Ok(Outcome::Done(changes))
+}

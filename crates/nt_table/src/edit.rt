@@ -1,0 +1,217 @@
+//! Changing topics, and telling the changes.
+
+ghost use Rattle.std.specs.Prelude.{◌≡◌, ◌<◌, vec_len, remove, map, filter, not, pos, None, [], ◌∷◌, ◌++◌, IfOk, OnOk};
+ghost use Rattle.nt_table.specs.Topics.{change_at, is_publisher, is_of, left_of, if_counts, put_cause_to, with_value, with_publisher, without_publisher, without_conn, new_topic, outlives, dropped};
+ghost use Rattle.nt_table.specs.Changes.{outcome_of, ended, end_of, put_change, drop_changes};
+
+use crate::cause::put_cause;
+use crate::lookup::{is_publisher, lives_on, outlives};
+use crate::topic::{Change, Changes, Outcome, Pub, Pubs, Timed, Topic};
+use nt_topics::{Name, Props, TopicName, TypeName};
+use nt_values::Value;
+use std::alloc::{AllocError, Global};
+use std::mem;
+
+/// A topic's name, as a change tells it.
+pub fn told_name(alloc: Global, name: &TopicName) -> Result<Name, AllocError>
+    ensures { IfOk result (λ told. told ≡ name.now) }
+{
+    Name::of(alloc, name.as_str())
+}
+
+/// One change.
+pub fn one(alloc: Global, change: Change) -> Result<Changes, AllocError>
+    ensures { IfOk result (λ changes. changes ≡ change ∷ []) }
+{
+    let mut changes = Changes::empty(alloc);
+    changes.push(change)?;
+    Ok(changes)
+}
+
+/// The end of a topic.
+pub fn ended(alloc: Global, topic: &Topic) -> Result<Change, AllocError>
+    ensures { IfOk result (λ change. change ≡ ended topic.now) }
+{
+    Ok(Change::Ended {
+        id: i64::from(topic.id),
+        name: told_name(alloc, &topic.name)?,
+    })
+}
+
+/// The end of a topic, where it doesn't live on.
+pub fn end_of(alloc: Global, topic: &Topic) -> Result<Changes, AllocError>
+    ensures { IfOk result (λ changes. changes ≡ end_of topic.now) }
+{
+    if lives_on(topic) {
+        return Ok(Changes::empty(alloc));
+    }
+    one(alloc, ended(alloc, topic)?)
+}
+
+/// The start of a topic.
+pub fn started(
+    alloc: Global,
+    id: u32,
+    name: &TopicName,
+    typ: &TypeName,
+    props: &Props,
+) -> Result<Change, AllocError>
+    ensures { IfOk result (λ change. change ≡ Change.Started (pos id) name.now typ.now props.now) }
+{
+    Ok(Change::Started {
+        id: i64::from(id),
+        name: told_name(alloc, name)?,
+        typ: typ.copy(alloc)?,
+        props: props.copy()?,
+    })
+}
+
+/// A new value of a topic.
+pub fn changed(
+    alloc: Global,
+    id: u32,
+    name: &TopicName,
+    time: u64,
+    value: &Value,
+) -> Result<Change, AllocError>
+    ensures { IfOk result (λ change. change ≡ Change.Changed (pos id) name.now time value.now) }
+{
+    Ok(Change::Changed {
+        id: i64::from(id),
+        name: told_name(alloc, name)?,
+        time,
+        value: value.copy(alloc)?,
+    })
+}
+
+/// Adds a publisher to a topic.
+pub fn add_publisher(topic: &mut Topic, publisher: Pub) -> Result<(), AllocError>
+    ensures { OnOk result (topic.new ≡ with_publisher publisher topic.old) }
+{
+    topic.pubs.push(publisher)
+}
+
+/// Takes a publisher out of those of a topic.
+pub fn drop_publisher(alloc: Global, topic: &mut Topic, conn: u32, uid: i64)
+    ensures { topic.new ≡ without_publisher conn uid topic.old }
+{
+    let publishers = mem::replace(&mut topic.pubs, Pubs::empty(alloc));
+    topic.pubs = without_publisher(publishers, conn, uid);
+}
+
+fn without_publisher(publishers: Pubs, conn: u32, uid: i64) -> Pubs
+    ensures { result ≡ filter (λ p. not (is_publisher conn uid p)) publishers }
+{
+    let mut publishers = publishers.into_vec();
+    keep_other_publishers(&mut publishers, conn, uid);
+    Pubs::of_vec(publishers)
+}
+
+fn keep_other_publishers(publishers: &mut Vec<Pub>, conn: u32, uid: i64)
+    ensures { publishers.new.items ≡ filter (λ p. not (is_publisher conn uid p)) publishers.old.items }
+{
+    publishers.retain(|p| !is_publisher(p, conn, uid));
+}
+
+/// Takes a connection's publishers out of those of a topic.
+fn drop_conn(alloc: Global, topic: &mut Topic, conn: u32)
+    ensures { topic.new ≡ without_conn conn topic.old }
+{
+    let publishers = mem::replace(&mut topic.pubs, Pubs::empty(alloc));
+    topic.pubs = without_conn(publishers, conn);
+}
+
+fn without_conn(publishers: Pubs, conn: u32) -> Pubs
+    ensures { result ≡ filter (λ p. not (is_of conn p)) publishers }
+{
+    let mut publishers = publishers.into_vec();
+    keep_other_conns(&mut publishers, conn);
+    Pubs::of_vec(publishers)
+}
+
+fn keep_other_conns(publishers: &mut Vec<Pub>, conn: u32)
+    ensures { publishers.new.items ≡ filter (λ p. not (is_of conn p)) publishers.old.items }
+{
+    publishers.retain(|p| p.conn != conn);
+}
+
+/// Puts a value to its publisher's topic, or says why it is refused.
+pub fn put_to(
+    alloc: Global,
+    topic: &mut Topic,
+    conn: u32,
+    uid: i64,
+    time: u64,
+    value: Value,
+) -> Result<Outcome, AllocError>
+    ensures answer { IfOk result
+        (λ o. o ≡ outcome_of (put_cause_to conn uid time value topic.old) (put_change time value topic.old)) }
+    ensures topic { OnOk result (topic.new
+        ≡ if_counts (put_cause_to conn uid time value topic.old) (with_value time value topic.old) topic.old) }
+{
+    if let Some(cause) = put_cause(topic, conn, uid, time, &value) {
+        drop(value);
+        return Ok(Outcome::Ignored(cause));
+    }
+    let changes = one(alloc, changed(alloc, topic.id, &topic.name, time, &value)?)?;
+    set_value(topic, time, value);
+    Ok(Outcome::Done(changes))
+}
+
+fn set_value(topic: &mut Topic, time: u64, value: Value)
+    ensures { topic.new ≡ with_value time value topic.old }
+{
+    topic.value = Some(Timed { time, value });
+}
+
+/// Takes the topic at a position out where nothing of it is left.
+pub fn settle(topics: &mut Vec<Topic>, i: usize)
+    requires { i < vec_len topics.old }
+    ensures { topics.new.items ≡ change_at left_of i topics.old.items }
+{
+    if !lives_on(&topics[i]) {
+        remove_at(topics, i);
+    }
+}
+
+fn remove_at(topics: &mut Vec<Topic>, i: usize)
+    requires { i < vec_len topics.old }
+    ensures { topics.new.items ≡ remove topics.old.items i }
+{
+    let _gone = topics.remove(i);
+}
+
+/// The ends that the end of a connection makes, by rising id.
+pub fn ends_of_conn(alloc: Global, topics: &[Topic], conn: u32) -> Result<Changes, AllocError>
+    ensures { IfOk result (λ changes. changes ≡ drop_changes topics.now conn) }
+{
+    let mut changes = Changes::empty(alloc);
+    for topic in topics {
+        if !outlives(topic, conn) {
+            changes.push(ended(alloc, topic)?)?;
+        }
+    }
+    Ok(changes)
+}
+
+/// Takes the connection's publishers out, and the topics that end with them.
+pub fn leave(alloc: Global, topics: &mut Vec<Topic>, conn: u32)
+    ensures { topics.new.items ≡ dropped topics.old.items conn }
+{
+    keep_outliving(topics, conn);
+    leave_all(alloc, topics, conn);
+}
+
+fn keep_outliving(topics: &mut Vec<Topic>, conn: u32)
+    ensures { topics.new.items ≡ filter (outlives conn) topics.old.items }
+{
+    topics.retain(|t| outlives(t, conn));
+}
+
+fn leave_all(alloc: Global, topics: &mut [Topic], conn: u32)
+    ensures { topics.new ≡ map (without_conn conn) topics.old }
+{
+    for topic in topics.iter_mut() {
+        drop_conn(alloc, topic, conn);
+    }
+}

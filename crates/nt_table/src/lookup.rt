@@ -1,0 +1,190 @@
+//! Looking through topics.
+
+ghost use Rattle.std.specs.Prelude.{◌≡◌, count_by, not, nat_le, option_copied, filter, length, ◌&&◌, bytes_eq};
+ghost use Rattle.std.specs.List.{list_any, find, position};
+ghost use Rattle.nt_table.specs.Topics.{is_publisher, is_of, has_publisher, has_conn, publishers_of, most_publishers, is_named, lives_on, outlives, is_fit, is_older, is_value_of, is_too_long, is_saved_fit};
+
+use crate::topic::{Pub, Topic};
+use nt_topics::Props;
+use nt_values::Value;
+
+/// The most publishers of one connection.
+const MOST_PUBLISHERS: usize = 16_384;
+
+/// The most bytes of the compact text of a topic's properties.
+const MOST_PROPERTIES: u64 = 65_536;
+
+/// Whether the publisher is this connection's, with this uid.
+pub fn is_publisher(publisher: &Pub, conn: u32, uid: i64) -> bool
+    ensures { result ≡ is_publisher conn uid publisher.now }
+{
+    publisher.conn == conn && publisher.uid == uid
+}
+
+/// Whether the topic has such a publisher.
+fn has_publisher(topic: &Topic, conn: u32, uid: i64) -> bool
+    ensures { result ≡ has_publisher conn uid topic.now }
+{
+    topic
+        .pubs
+        .as_slice()
+        .iter()
+        .any(|p| is_publisher(p, conn, uid))
+}
+
+/// Whether any topic has such a publisher.
+pub fn any_has_publisher(topics: &[Topic], conn: u32, uid: i64) -> bool
+    ensures { result ≡ list_any (has_publisher conn uid) topics.now }
+{
+    topics.iter().any(|t| has_publisher(t, conn, uid))
+}
+
+/// The position of the first topic with such a publisher.
+pub fn position_of_publisher(topics: &[Topic], conn: u32, uid: i64) -> Option<usize>
+    ensures { result ≡ position (has_publisher conn uid) topics.now }
+{
+    topics.iter().position(|t| has_publisher(t, conn, uid))
+}
+
+/// Whether the connection publishes to the topic.
+fn has_conn(topic: &Topic, conn: u32) -> bool
+    ensures { result ≡ has_conn conn topic.now }
+{
+    topic.pubs.as_slice().iter().any(|p| p.conn == conn)
+}
+
+/// How many publishers of the topic are this connection's.
+fn publishers_in(topic: &Topic, conn: u32) -> usize
+    ensures { result ≡ count_by (is_of conn) topic.now.pubs }
+{
+    topic
+        .pubs
+        .as_slice()
+        .iter()
+        .filter(|p| p.conn == conn)
+        .count()
+}
+
+/// Whether the connection has as many publishers as it may have.
+pub fn has_most_publishers(topics: &[Topic], conn: u32) -> bool
+    ensures { result ≡ nat_le most_publishers (publishers_of conn topics.now) }
+{
+    let mut count: usize = 0;
+    for topic in topics {
+        let more = publishers_in(topic, conn).min(MOST_PUBLISHERS);
+        count = (count + more).min(MOST_PUBLISHERS);
+    }
+    count == MOST_PUBLISHERS
+}
+
+/// How many publishers are of other connections.
+fn others_in(publishers: &[Pub], conn: u32) -> usize
+    ensures { result ≡ length (filter (λ p. not (is_of conn p)) publishers.now) }
+{
+    let mut count: usize = 0;
+    for publisher in publishers {
+        if publisher.conn != conn {
+            count += 1;
+        }
+    }
+    count
+}
+
+/// Whether the topic has this name.
+fn is_named(topic: &Topic, name: &str) -> bool
+    ensures { result ≡ is_named name.now topic.now }
+{
+    topic.name.as_str() == name
+}
+
+/// Whether any topic has this name.
+pub fn any_is_named(topics: &[Topic], name: &str) -> bool
+    ensures { result ≡ list_any (is_named name.now) topics.now }
+{
+    topics.iter().any(|t| is_named(t, name))
+}
+
+/// The position of the topic of this name.
+pub fn position_of_name(topics: &[Topic], name: &str) -> Option<usize>
+    ensures { result ≡ position (is_named name.now) topics.now }
+{
+    topics.iter().position(|t| is_named(t, name))
+}
+
+/// The topic of this name.
+pub fn topic_of_name<'a>(topics: &'a [Topic], name: &str) -> Option<&'a Topic>
+    ensures { option_copied result ≡ find (is_named name.now) topics.now }
+{
+    match position_of_name(topics, name) {
+        Some(i) => Some(&topics[i]),
+        None => None,
+    }
+}
+
+/// Whether the topic lives on: it has a publisher, or a flag keeps it.
+pub fn lives_on(topic: &Topic) -> bool
+    ensures { result ≡ lives_on topic.now }
+{
+    topic.pubs.as_slice().len() > 0 || topic.props.persistent() || topic.props.retained()
+}
+
+/// Whether the topic goes on when the connection ends.
+pub fn outlives(topic: &Topic, conn: u32) -> bool
+    ensures { result ≡ outlives conn topic.now }
+{
+    !has_conn(topic, conn)
+        || others_in(topic.pubs.as_slice(), conn) > 0
+        || topic.props.persistent()
+        || topic.props.retained()
+}
+
+/// Whether the compact text of the properties is too long.
+pub fn is_too_long(props: &Props) -> bool
+    ensures { result ≡ is_too_long props.now }
+{
+    props.text_len() > MOST_PROPERTIES
+}
+
+/// Whether the value is of the type.
+fn is_value_of(value: &Value, typ: &str) -> bool
+    ensures { result ≡ is_value_of typ.now value.now }
+{
+    value.fits(typ)
+}
+
+/// Whether a saved value, where there is one, is of the type.
+pub fn is_saved_fit(value: &Option<Value>, typ: &str) -> bool
+    ensures { result ≡ is_saved_fit typ.now value.now }
+{
+    match value {
+        Some(value) => is_value_of(value, typ),
+        None => true,
+    }
+}
+
+/// Whether the publisher has the topic's type, and the value is of it.
+pub fn is_fit(topic: &Topic, conn: u32, uid: i64, value: &Value) -> bool
+    ensures { result ≡ is_fit conn uid value.now topic.now }
+{
+    publishes_as(topic.pubs.as_slice(), topic.typ.as_str(), conn, uid)
+        && is_value_of(value, topic.typ.as_str())
+}
+
+/// Whether such a publisher has this type.
+fn publishes_as(publishers: &[Pub], typ: &str, conn: u32, uid: i64) -> bool
+    ensures { result ≡ list_any (λ p. is_publisher conn uid p && bytes_eq p.typ typ.now) publishers.now }
+{
+    publishers
+        .iter()
+        .any(|p| is_publisher(p, conn, uid) && p.typ.as_str() == typ)
+}
+
+/// Whether the held value has a greater time.
+pub fn holds_newer(topic: &Topic, time: u64) -> bool
+    ensures { result ≡ is_older time topic.now.value }
+{
+    match &topic.value {
+        None => false,
+        Some(held) => time < held.time,
+    }
+}
