@@ -1,7 +1,9 @@
 //! Subscriptions.
 
 ghost use Rattle.std.specs.Prelude.{◌≡◌, IfOk};
+ghost use Rattle.nt_subs.specs.Wishes.{is_matched};
 
+use crate::wish::is_meant;
 use nt_topics::Name;
 use nt_values::ListOf;
 use std::alloc::{AllocError, Global};
@@ -28,6 +30,18 @@ pub struct Sub {
 }
 
 impl Sub {
+    /// Whether one of the subscription's names means a topic. It takes no memory.
+    pub fn is_matched(&self, name: &str) -> bool
+        ensures { result ≡ is_matched self.now name.now }
+    {
+        for given in self.names.as_slice() {
+            if is_meant(self.options.prefix, given.as_str(), name) {
+                return true;
+            }
+        }
+        false
+    }
+
     /// An equal subscription. It fails for want of memory alone.
     pub fn copy(&self, alloc: Global) -> Result<Sub, AllocError>
         ensures { IfOk result (λ sub. sub ≡ self.now) }

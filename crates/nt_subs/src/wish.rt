@@ -1,7 +1,7 @@
 //! How much a topic is wanted.
 
 ghost use Rattle.std.specs.Prelude.{◌≡◌};
-ghost use Rattle.nt_subs.specs.Wishes.{is_meant, is_matched, strength, wish, greater};
+ghost use Rattle.nt_subs.specs.Wishes.{is_meant, strength, wish, greater};
 
 use crate::{Options, Sub};
 use nt_topics::is_special;
@@ -39,7 +39,7 @@ impl Wanted {
 pub(crate) fn wish(sub: &Sub, name: &str) -> Wanted
     ensures { result ≡ wish sub.now name.now }
 {
-    if is_matched(sub, name) {
+    if sub.is_matched(name) {
         strength(sub.options)
     } else {
         Wanted::No
@@ -59,21 +59,9 @@ fn strength(options: Options) -> Wanted
     }
 }
 
-/// Whether one of the subscription's names means a topic.
-fn is_matched(sub: &Sub, name: &str) -> bool
-    ensures { result ≡ is_matched sub.now name.now }
-{
-    for given in sub.names.as_slice() {
-        if is_meant(sub.options.prefix, given.as_str(), name) {
-            return true;
-        }
-    }
-    false
-}
-
 /// Whether a name that a subscription gives means a topic: it is the topic's, or its prefix. A
 /// special name has only special prefixes.
-fn is_meant(prefix: bool, given: &str, name: &str) -> bool
+pub(crate) fn is_meant(prefix: bool, given: &str, name: &str) -> bool
     ensures { result ≡ is_meant prefix given.now name.now }
 {
     if prefix {

@@ -1,0 +1,4 @@
+pub mod Appends
+pub mod Packing
+pub mod Names
+pub mod Metas

@@ -1,0 +1,8 @@
+use Rattle.std.proofs.Common.{◌≡◌, ◌++◌, map, drop}
+use Rattle.nt_meta.specs.Meta.{client_sub}
+use Rattle.nt_meta.proofs.meta.add_client_subs.Given as goal
+
+-- those that were added and those that follow are all
+abbrev pub invariant-loop-conn : goal.invariant-loop-conn
+invariant-loop-conn l =
+    l.all ++ map client_sub (drop l.conn-index l.roster.conns) ≡ l.fn.all ++ map client_sub l.roster.conns

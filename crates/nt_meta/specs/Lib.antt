@@ -1,0 +1,4 @@
+pub mod Elements
+pub mod Packing
+pub mod Meta
+pub mod Topics

@@ -1,0 +1,14 @@
+//! Meta topics: what a server tells of its own connections, publishers and subscriptions.
+#![tactic(auto)]
+
+mod bytes;
+mod element;
+mod find;
+mod list;
+mod meta;
+mod put;
+mod roster;
+mod topic;
+
+pub use meta::{MetaNow, Metas, all_metas, meta_id, meta_value};
+pub use roster::{ConnRow, Conns, LifeRow, Lives, PubRow, PubRows, Roster, SubRow, SubRows};

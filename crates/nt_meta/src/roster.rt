@@ -1,0 +1,54 @@
+//! What the meta topics tell of: the open connections and the living topics.
+
+use nt_subs::Sub;
+use nt_topics::{Name, TopicName};
+use nt_values::ListOf;
+
+/// A publisher of a connection: its uid there, and its topic.
+#[derive(Debug, Drop)]
+pub struct PubRow {
+    pub uid: i64,
+    pub topic: TopicName,
+}
+
+/// The publishers of a connection, by rising uid.
+pub type PubRows = ListOf<PubRow>;
+
+/// A subscription of a connection, with its uid there.
+#[derive(Debug, Drop)]
+pub struct SubRow {
+    pub uid: i64,
+    pub sub: Sub,
+}
+
+/// The subscriptions of a connection, by rising uid.
+pub type SubRows = ListOf<SubRow>;
+
+/// An open connection: its number, the name that it was given, its publishers and subscriptions.
+#[derive(Debug, Drop)]
+pub struct ConnRow {
+    pub conn: u32,
+    pub name: Name,
+    pub pubs: PubRows,
+    pub subs: SubRows,
+}
+
+/// The open connections, by rising number.
+pub type Conns = ListOf<ConnRow>;
+
+/// A living topic that a client published.
+#[derive(Debug, Drop)]
+pub struct LifeRow {
+    pub id: u32,
+    pub name: TopicName,
+}
+
+/// The living topics, by rising id.
+pub type Lives = ListOf<LifeRow>;
+
+/// The open connections and the living topics, each list in the order in which it is told.
+#[derive(Debug, Drop)]
+pub struct Roster {
+    pub conns: Conns,
+    pub topics: Lives,
+}
