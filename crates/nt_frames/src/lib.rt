@@ -11,4 +11,4 @@ mod write;
 pub use laws::frames_have_one_meaning;
 pub use message::{FrameFault, FrameKind, FrameRead, ValueMsg};
 pub use read::read_frame;
-pub use write::write_frame;
+pub use write::{put_message, write_frame};

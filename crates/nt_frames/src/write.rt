@@ -51,8 +51,9 @@ fn put_value(out: &mut Vec<u8>, value: &Value) -> Result<(), AllocError>
     }
 }
 
-/// Appends a message.
-fn put_message(out: &mut Vec<u8>, message: &ValueMsg) -> Result<(), AllocError>
+/// Appends a message, each atom in its shortest spelling, a double in 64 bits and a float in 32. It
+/// fails as `write_frame` does, and then part of the message may have been appended.
+pub fn put_message(out: &mut Vec<u8>, message: &ValueMsg) -> Result<(), AllocError>
     ensures ok { OnOk result (out.new.items ≡ out.old.items ++ spelling_of message.now) }
     ensures spelled { OnOk result (HasSpelling message.now) }
 {

@@ -3,6 +3,7 @@
 #![tactic(auto)]
 
 mod file;
+mod frame;
 mod memory;
 mod sink;
 mod source;
@@ -10,6 +11,7 @@ mod source;
 mod tests;
 
 pub use file::{FileSink, FileSource, ReaderSource, WriterSink};
+pub use frame::Frame;
 pub use memory::{MemSink, MemSource};
 pub use sink::{Sink, Stopped, write_all};
 pub use source::{Failed, Source};
