@@ -2,3 +2,5 @@ pub mod Appends
 pub mod Packing
 pub mod Names
 pub mod Metas
+pub mod Fronts
+pub mod Apart

@@ -2,3 +2,4 @@ pub mod Elements
 pub mod Packing
 pub mod Meta
 pub mod Topics
+pub mod Rosters

@@ -1,6 +1,6 @@
 -- How messages are laid into frames (NetworkTables 4.1, "Text Data Frames" and "MessagePack Data"): a text frame for
 -- all that are told in JSON, and then the values in binary frames.
-use Rattle.std.specs.Prelude.{ℕ, ◌+◌, ℤ, negsuc, Bool, List, [], ◌∷◌, ◌++◌, length, nat_lt, ◌&&◌, if◌then◌else◌}
+use Rattle.std.specs.Prelude.{ℕ, ◌+◌, negsuc, Bool, List, [], ◌∷◌, ◌++◌, length, nat_lt, ◌&&◌, if◌then◌else◌}
 use Rattle.nt_frames.specs.declared.message.ValueMsg.{ValueMsg}
 use Rattle.nt_frames.specs.Frames.{spelling_of, frame_of}
 use Rattle.nt_control.specs.declared.message.ServerMsg.{ServerMsg}

@@ -49,11 +49,7 @@ pub fn clock_answer(alloc: Global, msg: &ValueMsg, now: u64) -> Result<Frame, Al
 }
 
 /// Adds the text frame, where there is anything to tell.
-fn add_texts(
-    alloc: Global,
-    frames: &mut Vec<Frame>,
-    texts: &[ServerMsg],
-) -> Result<(), AllocError>
+fn add_texts(alloc: Global, frames: &mut Vec<Frame>, texts: &[ServerMsg]) -> Result<(), AllocError>
     ensures { OnOk result (frames.new.items ≡ frames.old.items ++ text_frames texts.now) }
 {
     if !texts.is_empty() {
@@ -63,11 +59,7 @@ fn add_texts(
 }
 
 /// Adds the frames of the values.
-fn add_values(
-    alloc: Global,
-    frames: &mut Vec<Frame>,
-    values: &[ValueMsg],
-) -> Result<(), AllocError>
+fn add_values(alloc: Global, frames: &mut Vec<Frame>, values: &[ValueMsg]) -> Result<(), AllocError>
     ensures { OnOk result (frames.new.items ≡ frames.old.items ++ frames_behind [] values.now) }
 {
     let mut begun = Vec::new(alloc);

@@ -1,0 +1,35 @@
+-- What holds of the roster of a server, and what follows for its meta topics.
+use Rattle.std.specs.Prelude.{◌≡◌, ◌≢◌, ◌<◌, ◌≤◌, ℕ, List, [], ◌∷◌, ◌++◌, length, Some}
+use Rattle.std.specs.List.{AllByRecursion, flat_map}
+use Rattle.nt_meta.specs.declared.roster.Roster.{Roster}
+use Rattle.nt_meta.specs.Packing.{most_bytes}
+use Rattle.nt_meta.specs.Meta.{IsNumbered, metas, meta_named}
+
+-- the relation holds of each item and each one after it
+abbrev pub Pairwise : {X : Type 0} → (X → X → Type 0) → List X → Type 0
+Pairwise R [] = Unit {0}
+Pairwise R (x ∷ xs) = AllByRecursion (R x) xs × Pairwise R xs
+
+-- connections stand by rising number and topics by rising id, and their names differ
+pub record IsRoster (r : Roster) : Type 0 where
+  pub numbered : IsNumbered r
+  pub by_number : Pairwise (λ a b. a.conn < b.conn) r.conns
+  pub by_id : Pairwise (λ a b. a.id < b.id) r.topics
+  pub clients_differ : Pairwise (λ a b. a.name ≢ b.name) r.conns
+  pub topics_differ : Pairwise (λ a b. a.name ≢ b.name) r.topics
+
+-- meta topics stand by rising id
+abbrev pub AreById : Roster → Type 0
+AreById r = Pairwise (λ a b. a.id < b.id) (metas r)
+
+-- each of them is the one that its name finds
+abbrev pub AreFound : Roster → Type 0
+AreFound r = AllByRecursion (λ m. meta_named r m.name ≡ Some m) (metas r)
+
+-- a front of some spellings that is short enough, and no longer front is
+pub record IsLongestFront (all front : List (List ℕ)) : Type 0 where
+  pub rest : List (List ℕ)
+  pub whole : all ≡ front ++ rest
+  pub within : length (flat_map (λ x. x) front) ≤ most_bytes
+  pub longest : (other back : List (List ℕ)) → all ≡ other ++ back
+      → length (flat_map (λ x. x) other) ≤ most_bytes → length other ≤ length front
