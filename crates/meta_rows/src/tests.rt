@@ -171,7 +171,7 @@ a7 6f 70 74 69 6f 6e 73 81 aa 74 6f 70 69 63 73 6f 6e 6c 79 c3 \
     Ok(())
 }
 
-/// A client's subscriptions: two of one long name, spelled in 28 bytes more than it, and a short one.
+/// A client's subscriptions: two of one long name, spelled in 28 bytes more, and a short one.
 fn long_subs(alloc: Global, first: usize, second: usize) -> Result<Roster, Fail> {
     let mut subs = SubRows::empty(alloc);
     let long = "x".repeat(alloc, first)?;

@@ -14,7 +14,8 @@ use Rattle.nt_meta.specs.Rosters.{Pairwise, IsRoster, AreById, AreFound}
 -- ---- what holds of each of two lists
 
 all-rows : {X Y : Type 0} (P : X → Type 0) (Q : Y → Type 0) (f : X → Y) (xs : List X) (ys : List Y)
-    → ((x : X) → P x → Q (f x)) → AllByRecursion P xs → AllByRecursion Q ys → AllByRecursion Q (map f xs ++ ys)
+    → ((x : X) → P x → Q (f x)) → AllByRecursion P xs → AllByRecursion Q ys
+    → AllByRecursion Q (map f xs ++ ys)
 all-rows P Q f [] ys step all rest = rest
 all-rows P Q f (x ∷ xs) ys step all rest = (step x all.0, all-rows P Q f xs ys step all.1 rest)
 
@@ -23,7 +24,8 @@ all-each : {X Y : Type 0} (Q : Y → Type 0) (f : X → Y) (xs : List X) (ys : L
 all-each Q f [] ys step rest = rest
 all-each Q f (x ∷ xs) ys step rest = (step x, all-each Q f xs ys step rest)
 
-all-weaker : {Y : Type 0} (P Q : Y → Type 0) (ys : List Y) → ((y : Y) → P y → Q y) → AllByRecursion P ys → AllByRecursion Q ys
+all-weaker : {Y : Type 0} (P Q : Y → Type 0) (ys : List Y) → ((y : Y) → P y → Q y) → AllByRecursion P ys
+    → AllByRecursion Q ys
 all-weaker P Q [] step all = tt
 all-weaker P Q (y ∷ ys) step all = (step y all.0, all-weaker P Q ys step all.1)
 
@@ -41,7 +43,8 @@ abbrev From : ℕ → List MetaNow → Type 0
 From least ms = AllByRecursion (λ m. least ≤ m.id) ms
 
 -- the meta topics of one kind, by rising number, and those of the kinds above
-rise-rows : {X : Type 0} (kind : ℕ) (key : X → ℕ) (f : X → MetaNow) → ((x : X) → (f x).id ≡ id_of kind (key x))
+rise-rows : {X : Type 0} (kind : ℕ) (key : X → ℕ) (f : X → MetaNow)
+    → ((x : X) → (f x).id ≡ id_of kind (key x))
     → (xs : List X) → Pairwise (λ a b. key a < key b) xs → All (λ x. key x ≤ last_number) xs
     → (ys : List MetaNow) → Rise ys → From (id_of kind 268_435_456) ys
     → Rise (map f xs ++ ys)
@@ -52,11 +55,14 @@ rise-rows kind key f is (x ∷ xs) pairs small ys rise from =
           (λ y (l : key x < key y). let a = is x in let b = is y in omega (arith, l)) pairs.0
           (all-weaker (λ m. id_of kind 268_435_456 ≤ m.id) (λ m. (f x).id < m.id) ys
           (λ m (l : id_of kind 268_435_456 ≤ m.id). let a = is x in omega (arith, l, here)) from),
-      rise-rows kind key f is xs pairs.1 (All-rest (λ x. key x ≤ last_number) x xs (x ∷ xs) refl small) ys rise from,
+      rise-rows kind key f is xs pairs.1 (All-rest (λ x. key x ≤ last_number) x xs (x ∷ xs) refl small) ys
+          rise from,
     )
 
-from-rows : {X : Type 0} (kind : ℕ) (key : X → ℕ) (f : X → MetaNow) → ((x : X) → (f x).id ≡ id_of kind (key x))
-    → (xs : List X) (ys : List MetaNow) → From (id_of kind 268_435_456) ys → From (id_of kind 0) (map f xs ++ ys)
+from-rows : {X : Type 0} (kind : ℕ) (key : X → ℕ) (f : X → MetaNow)
+    → ((x : X) → (f x).id ≡ id_of kind (key x))
+    → (xs : List X) (ys : List MetaNow) → From (id_of kind 268_435_456) ys
+    → From (id_of kind 0) (map f xs ++ ys)
 from-rows kind key f is xs ys from =
     all-each (λ m. id_of kind 0 ≤ m.id) f xs ys (λ x. let a = is x in omega arith)
     (all-weaker (λ m. id_of kind 268_435_456 ≤ m.id) (λ m. id_of kind 0 ≤ m.id) ys
@@ -67,13 +73,17 @@ metas-by-id r n =
     let own = clients r ∷ server_pub ∷ server_sub ∷ [] in
     let rise6 : Rise own = ((lit< tt, (lit< tt, tt)), ((lit< tt, tt), (tt, tt))) in
     let from6 : From (id_of 5 268_435_456) own = (omega arith, (omega arith, (omega arith, tt))) in
-    let rise5 = rise-rows 5 (λ (c : ConnRow). c.conn) client_sub (λ c. refl) r.conns n.by_number n.numbered.conns own rise6 from6 in
+    let rise5 = rise-rows 5 (λ (c : ConnRow). c.conn) client_sub
+    (λ c. refl) r.conns n.by_number n.numbered.conns own rise6 from6 in
     let from5 = from-rows 5 (λ (c : ConnRow). c.conn) client_sub (λ c. refl) r.conns own from6 in
-    let rise4 = rise-rows 4 (λ (c : ConnRow). c.conn) client_pub (λ c. refl) r.conns n.by_number n.numbered.conns _ rise5 from5 in
+    let rise4 = rise-rows 4 (λ (c : ConnRow). c.conn) client_pub
+    (λ c. refl) r.conns n.by_number n.numbered.conns _ rise5 from5 in
     let from4 = from-rows 4 (λ (c : ConnRow). c.conn) client_pub (λ c. refl) r.conns _ from5 in
-    let rise3 = rise-rows 3 (λ (t : LifeRow). t.id) (topic_sub r) (λ t. refl) r.topics n.by_id n.numbered.topics _ rise4 from4 in
+    let rise3 = rise-rows 3 (λ (t : LifeRow). t.id) (topic_sub r)
+    (λ t. refl) r.topics n.by_id n.numbered.topics _ rise4 from4 in
     let from3 = from-rows 3 (λ (t : LifeRow). t.id) (topic_sub r) (λ t. refl) r.topics _ from4 in
-    rise-rows 2 (λ (t : LifeRow). t.id) (topic_pub r) (λ t. refl) r.topics n.by_id n.numbered.topics _ rise3 from3
+    rise-rows 2 (λ (t : LifeRow). t.id) (topic_pub r)
+    (λ t. refl) r.topics n.by_id n.numbered.topics _ rise3 from3
 
 -- ---- names
 
@@ -89,10 +99,12 @@ other-name : (prefix a b : List ℕ) → a ≢ b → bytes_eq (prefix ++ a) (pre
 other-name prefix a b differ = by (bytes_eq (prefix ++ a) (prefix ++ b)) refl
   where
     by : (t : Bool) → bytes_eq (prefix ++ a) (prefix ++ b) ≡ t → t ≡ false
-    by true e = absurd (differ (append_cancel_left prefix a b ((bytes_eq-Decides (prefix ++ a) (prefix ++ b)).0 e)))
+    by true e = absurd (differ (append_cancel_left prefix a b
+        ((bytes_eq-Decides (prefix ++ a) (prefix ++ b)).0 e)))
     by false e = refl
 
-apart-rows : {X : Type 0} (prefix : List ℕ) (key : X → List ℕ) (f : X → MetaNow) → ((x : X) → (f x).name ≡ prefix ++ key x)
+apart-rows : {X : Type 0} (prefix : List ℕ) (key : X → List ℕ) (f : X → MetaNow)
+    → ((x : X) → (f x).name ≡ prefix ++ key x)
     → (xs : List X) → Pairwise (λ a b. key a ≢ key b) xs → (ys : List MetaNow) → Others prefix ys → Apart ys
     → Apart (map f xs ++ ys)
 apart-rows prefix key f is [] pairs ys others apart = apart
@@ -123,20 +135,26 @@ metas-found r n =
     let told = map (topic_sub r) r.topics ++ pubs in
     let apart6 : Apart own = ((refl, (refl, tt)), ((refl, tt), (tt, tt))) in
     let apart5 : Apart subs =
-    apart-rows (codes "$client_sub$") (λ (c : ConnRow). c.name) client_sub (λ c. refl) r.conns n.clients_differ own
+    apart-rows (codes "$client_sub$") (λ (c : ConnRow). c.name) client_sub
+    (λ c. refl) r.conns n.clients_differ own
     (λ key. (refl, (refl, (refl, tt)))) apart6 in
     let apart4 : Apart pubs =
-    apart-rows (codes "$client_pub$") (λ (c : ConnRow). c.name) client_pub (λ c. refl) r.conns n.clients_differ subs
-    (λ key. all-each (λ m. bytes_eq (codes "$client_pub$" ++ key) m.name ≡ false) client_sub r.conns own (λ c. refl)
+    apart-rows (codes "$client_pub$") (λ (c : ConnRow). c.name) client_pub
+    (λ c. refl) r.conns n.clients_differ subs
+    (λ key. all-each (λ m. bytes_eq (codes "$client_pub$" ++ key) m.name ≡ false) client_sub r.conns own
+    (λ c. refl)
     (refl, (refl, (refl, tt)))) apart5 in
     let apart3 : Apart told =
-    apart-rows (codes "$sub$") (λ (t : LifeRow). t.name) (topic_sub r) (λ t. refl) r.topics n.topics_differ pubs
+    apart-rows (codes "$sub$") (λ (t : LifeRow). t.name) (topic_sub r)
+    (λ t. refl) r.topics n.topics_differ pubs
     (λ key. all-each (λ m. bytes_eq (codes "$sub$" ++ key) m.name ≡ false) client_pub r.conns subs (λ c. refl)
     (all-each (λ m. bytes_eq (codes "$sub$" ++ key) m.name ≡ false) client_sub r.conns own (λ c. refl)
     (refl, (refl, (refl, tt))))) apart4 in
     found-own (metas r)
-    (apart-rows (codes "$pub$") (λ (t : LifeRow). t.name) (topic_pub r) (λ t. refl) r.topics n.topics_differ told
-    (λ key. all-each (λ m. bytes_eq (codes "$pub$" ++ key) m.name ≡ false) (topic_sub r) r.topics pubs (λ t. refl)
+    (apart-rows (codes "$pub$") (λ (t : LifeRow). t.name) (topic_pub r)
+    (λ t. refl) r.topics n.topics_differ told
+    (λ key. all-each (λ m. bytes_eq (codes "$pub$" ++ key) m.name ≡ false) (topic_sub r) r.topics pubs
+    (λ t. refl)
     (all-each (λ m. bytes_eq (codes "$pub$" ++ key) m.name ≡ false) client_pub r.conns subs (λ c. refl)
     (all-each (λ m. bytes_eq (codes "$pub$" ++ key) m.name ≡ false) client_sub r.conns own (λ c. refl)
     (refl, (refl, (refl, tt)))))) apart3)

@@ -10,7 +10,8 @@ use Rattle.nt_meta.specs.Elements.{spelled, option_name, option_pairs, options_a
 head-some : (n alone two four : ℕ) → 0 < length (head_spelling n alone two four)
 head-some n alone two four = by (nat_lt n 16) (nat_lt n 0x1_0000)
   where
-    by : (a b : Bool) → 0 < length (if a then (alone + n) ∷ [] else if b then two ∷ to_be_bytes w16 n else four ∷ to_be_bytes w32 n)
+    by : (a b : Bool) → 0 < length
+        (if a then (alone + n) ∷ [] else if b then two ∷ to_be_bytes w16 n else four ∷ to_be_bytes w32 n)
     by true b = omega arith
     by false true = omega arith
     by false false = omega arith
@@ -24,8 +25,10 @@ map-more n xs ys e =
     omega arith
 
 -- options, list by list
-pairs-append : (a b : List (List ℕ)) → spelled (option_pairs (a ++ b)) ≡ spelled (option_pairs a) ++ spelled (option_pairs b)
-pairs-append a b = ap spelled (flat_map-append (λ name. text name ∷ boolean true ∷ []) a b) ∙ flat_map-append shortest (option_pairs a) (option_pairs b)
+pairs-append : (a b : List (List ℕ)) → spelled (option_pairs (a ++ b)) ≡ spelled (option_pairs a)
+    ++ spelled (option_pairs b)
+pairs-append a b = ap spelled (flat_map-append (λ name. text name ∷ boolean true ∷ []) a b)
+    ∙ flat_map-append shortest (option_pairs a) (option_pairs b)
 
 pub options-put : (options : Options) (o0 o1 o2 o3 o4 : List ℕ) (n : ℕ) → n ≡ length (true_options options)
     → o1 ≡ o0 ++ shortest (map_head n)
@@ -39,5 +42,6 @@ options-put options o0 o1 o2 o3 o4 n count e1 e2 e3 e4 =
     let topics = option_name (codes "topicsonly") options.topicsonly in
     let pairs : spelled (option_pairs (all ++ (prefix ++ topics)))
     ≡ spelled (option_pairs all) ++ (spelled (option_pairs prefix) ++ spelled (option_pairs topics)) =
-    pairs-append all (prefix ++ topics) ∙ ap (λ z. spelled (option_pairs all) ++ z) (pairs-append prefix topics) in
+    pairs-append all (prefix ++ topics) ∙ ap (λ z. spelled (option_pairs all) ++ z)
+    (pairs-append prefix topics) in
     rw (e4, e3, e2, e1, count, pairs) (simp append_assoc)

@@ -12,7 +12,8 @@ record IsLongestBehind (before : ℕ) (all front : List (List ℕ)) : Type 0 whe
   rest : List (List ℕ)
   whole : all ≡ front ++ rest
   within : before + size front ≤ most_bytes
-  longest : (other back : List (List ℕ)) → all ≡ other ++ back → before + size other ≤ most_bytes → length other ≤ length front
+  longest : (other back : List (List ℕ)) → all ≡ other ++ back → before + size other ≤ most_bytes
+      → length other ≤ length front
 
 abbrev head_or : List ℕ → List (List ℕ) → List ℕ
 head_or d [] = d
@@ -23,10 +24,12 @@ longest-none before h = record {
   rest = [];
   whole = refl;
   within = omega (arith, h);
-  longest = λ other back e w. let n : 0 ≡ length other + length back = ap length e ∙ length-append other back in omega arith;
+  longest = λ other back e w. let n : 0 ≡ length other + length back =
+      ap length e ∙ length-append other back in omega arith;
 }
 
-longest-cut : (before : ℕ) (x : List ℕ) (xs : List (List ℕ)) → before ≤ most_bytes → most_bytes < before + length x
+longest-cut : (before : ℕ) (x : List ℕ) (xs : List (List ℕ)) → before ≤ most_bytes
+    → most_bytes < before + length x
     → IsLongestBehind before (x ∷ xs) []
 longest-cut before x xs h over = record {
   rest = x ∷ xs;
@@ -35,19 +38,22 @@ longest-cut before x xs h over = record {
   longest = none;
 }
   where
-    none : (other back : List (List ℕ)) → x ∷ xs ≡ other ++ back → before + size other ≤ most_bytes → length other ≤ 0
+    none : (other back : List (List ℕ)) → x ∷ xs ≡ other ++ back → before + size other ≤ most_bytes
+        → length other ≤ 0
     none [] back e w = omega arith
     none (y ∷ ys) back e w =
         let n : length x ≡ length y = ap (λ z. length (head_or x z)) e in
         let m : size (y ∷ ys) ≡ length y + size ys = length-append y (flat_map (λ x. x) ys) in
         omega (arith, over, w)
 
-longest-more : (before : ℕ) (x : List ℕ) (xs front : List (List ℕ)) → IsLongestBehind (before + length x) xs front
+longest-more : (before : ℕ) (x : List ℕ) (xs front : List (List ℕ))
+    → IsLongestBehind (before + length x) xs front
     → IsLongestBehind before (x ∷ xs) (x ∷ front)
 longest-more before x xs front l = record {
   rest = l.rest;
   whole = ap (λ z. x ∷ z) l.whole;
-  within = let w = l.within in let m : size (x ∷ front) ≡ length x + size front = length-append x (flat_map (λ x. x) front) in omega arith;
+  within = let w = l.within in let m : size (x ∷ front) ≡ length x + size front =
+      length-append x (flat_map (λ x. x) front) in omega arith;
   longest = more;
 }
   where
@@ -61,13 +67,15 @@ longest-more before x xs front l = record {
         let k = l.longest ys back (ap (drop 1) e) s in
         omega arith
 
-longest-behind : (before : ℕ) (xs : List (List ℕ)) → before ≤ most_bytes → IsLongestBehind before xs (fitting before xs)
+longest-behind : (before : ℕ) (xs : List (List ℕ)) → before ≤ most_bytes
+    → IsLongestBehind before xs (fitting before xs)
 longest-behind before [] h = longest-none before h
 longest-behind before (x ∷ xs) h =
     by (nat_le (before + length x) most_bytes) refl (λ w. longest-behind (before + length x) xs w)
   where
     by : (b : Bool) → nat_le (before + length x) most_bytes ≡ b
-        → (before + length x ≤ most_bytes → IsLongestBehind (before + length x) xs (fitting (before + length x) xs))
+        → (before + length x ≤ most_bytes
+        → IsLongestBehind (before + length x) xs (fitting (before + length x) xs))
         → IsLongestBehind before (x ∷ xs) (cond b (x ∷ fitting (before + length x) xs) [])
     by true e rest = longest-more before x xs (fitting (before + length x) xs) (rest (search (rules, e)))
     by false e rest = longest-cut before x xs h (search (rules, e))

@@ -36,10 +36,14 @@ ids-of-rows f P small (x ∷ xs) all ys h =
 
 ids-of-metas : (r : Roster) → IsNumbered r → AllByRecursion IsId (metas r)
 ids-of-metas r n =
-    ids-of-rows (topic_pub r) (λ t. t.id ≤ last_number) (λ t (h : t.id ≤ last_number). omega arith) r.topics n.topics _
-    (ids-of-rows (topic_sub r) (λ t. t.id ≤ last_number) (λ t (h : t.id ≤ last_number). omega arith) r.topics n.topics _
-    (ids-of-rows client_pub (λ c. c.conn ≤ last_number) (λ c (h : c.conn ≤ last_number). omega arith) r.conns n.conns _
-    (ids-of-rows client_sub (λ c. c.conn ≤ last_number) (λ c (h : c.conn ≤ last_number). omega arith) r.conns n.conns _
+    ids-of-rows (topic_pub r) (λ t. t.id ≤ last_number)
+    (λ t (h : t.id ≤ last_number). omega arith) r.topics n.topics _
+    (ids-of-rows (topic_sub r) (λ t. t.id ≤ last_number)
+    (λ t (h : t.id ≤ last_number). omega arith) r.topics n.topics _
+    (ids-of-rows client_pub (λ c. c.conn ≤ last_number)
+    (λ c (h : c.conn ≤ last_number). omega arith) r.conns n.conns _
+    (ids-of-rows client_sub (λ c. c.conn ≤ last_number)
+    (λ c (h : c.conn ≤ last_number). omega arith) r.conns n.conns _
     (lit< tt, (lit< tt, (lit< tt, tt))))))
 
 found-id : (test : MetaNow → Bool) (ms : List MetaNow) → AllByRecursion IsId ms → IfSome (find test ms) IsId
@@ -60,7 +64,8 @@ number-is r ServerPub = refl
 number-is r ServerSub = refl
 
 -- what was found by a name has an id of 32 bits
-pub found-number : (r : Roster) (name : List ℕ) (t : MetaTopic) → IsNumbered r → Some (meta_of r t) ≡ meta_named r name
+pub found-number : (r : Roster) (name : List ℕ) (t : MetaTopic) → IsNumbered r → Some (meta_of r t)
+    ≡ meta_named r name
     → number_of t < 2 ^ 32
 found-number r name t n e =
     let small : IsId (meta_of r t) =

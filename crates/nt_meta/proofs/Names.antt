@@ -41,7 +41,8 @@ find-map test f [] = refl
 find-map test f (x ∷ xs) = by (test (f x)) (find-map test f xs)
   where
     by : (b : Bool) → find test (map f xs) ≡ option_map f (find (λ x. test (f x)) xs)
-        → cond b (Some (f x)) (find test (map f xs)) ≡ option_map f (cond b (Some x) (find (λ x. test (f x)) xs))
+        → cond b (Some (f x)) (find test (map f xs))
+        ≡ option_map f (cond b (Some x) (find (λ x. test (f x)) xs))
     by true rest = refl
     by false rest = rest
 
@@ -60,7 +61,8 @@ found-behind name f xs ys =
     ∙ ap (λ z. option_or z (find (is_named name) ys)) (find-map (is_named name) f xs)
 
 -- the first of what was found of each kind
-abbrev pub first_of : Roster → Option LifeRow → Option LifeRow → Option ConnRow → Option ConnRow → Option MetaNow
+abbrev pub first_of : Roster → Option LifeRow → Option LifeRow → Option ConnRow → Option ConnRow
+    → Option MetaNow
     → Option MetaNow
 first_of r a b c d e =
     option_or (option_map (topic_pub r) a) (option_or (option_map (topic_sub r) b)
@@ -94,7 +96,8 @@ found-first r name =
     (found-behind name client_sub r.conns _)))
 
 -- where nothing was found of the kinds before
-pub found-topic_pub : (r : Roster) (name : List ℕ) (x : LifeRow) → Some x ≡ A r name → Some (topic_pub r x) ≡ meta_named r name
+pub found-topic_pub : (r : Roster) (name : List ℕ) (x : LifeRow) → Some x ≡ A r name → Some (topic_pub r x)
+    ≡ meta_named r name
 found-topic_pub r name x e =
     ap (λ a. first_of r a (B r name) (C r name) (D r name) (E r name)) e ∙ sym (found-first r name)
 
@@ -104,14 +107,16 @@ found-topic_sub r name x a e =
     ap (λ b. first_of r None b (C r name) (D r name) (E r name)) e
     ∙ ap (λ a. first_of r a (B r name) (C r name) (D r name) (E r name)) a ∙ sym (found-first r name)
 
-pub found-client_pub : (r : Roster) (name : List ℕ) (x : ConnRow) → None ≡ A r name → None ≡ B r name → Some x ≡ C r name
+pub found-client_pub : (r : Roster) (name : List ℕ) (x : ConnRow) → None ≡ A r name → None ≡ B r name
+    → Some x ≡ C r name
     → Some (client_pub x) ≡ meta_named r name
 found-client_pub r name x a b e =
     ap (λ c. first_of r None None c (D r name) (E r name)) e
     ∙ ap (λ b. first_of r None b (C r name) (D r name) (E r name)) b
     ∙ ap (λ a. first_of r a (B r name) (C r name) (D r name) (E r name)) a ∙ sym (found-first r name)
 
-pub found-client_sub : (r : Roster) (name : List ℕ) (x : ConnRow) → None ≡ A r name → None ≡ B r name → None ≡ C r name
+pub found-client_sub : (r : Roster) (name : List ℕ) (x : ConnRow) → None ≡ A r name → None ≡ B r name → None
+    ≡ C r name
     → Some x ≡ D r name → Some (client_sub x) ≡ meta_named r name
 found-client_sub r name x a b c e =
     ap (λ d. first_of r None None None d (E r name)) e
@@ -119,7 +124,8 @@ found-client_sub r name x a b c e =
     ∙ ap (λ b. first_of r None b (C r name) (D r name) (E r name)) b
     ∙ ap (λ a. first_of r a (B r name) (C r name) (D r name) (E r name)) a ∙ sym (found-first r name)
 
-pub found-server : (r : Roster) (name : List ℕ) (x : Option MetaNow) → None ≡ A r name → None ≡ B r name → None ≡ C r name
+pub found-server : (r : Roster) (name : List ℕ) (x : Option MetaNow) → None ≡ A r name → None ≡ B r name
+    → None ≡ C r name
     → None ≡ D r name → x ≡ E r name → x ≡ meta_named r name
 found-server r name x a b c d e =
     e ∙ ap (λ d. first_of r None None None d (E r name)) d

@@ -15,9 +15,11 @@ full-stays count bytes (x ∷ xs) = full-stays count bytes xs
 
 -- the array of what is there and of what is kept behind it
 abbrev array_behind : ℕ → List ℕ → List (List ℕ) → List ℕ
-array_behind count bytes kept = shortest (array_head (count + length kept)) ++ (bytes ++ flat_map (λ x. x) kept)
+array_behind count bytes kept = shortest (array_head (count + length kept))
+    ++ (bytes ++ flat_map (λ x. x) kept)
 
-behind-none : (count : ℕ) (bytes : List ℕ) → shortest (array_head count) ++ bytes ≡ array_behind count bytes []
+behind-none : (count : ℕ) (bytes : List ℕ) → shortest (array_head count) ++ bytes
+    ≡ array_behind count bytes []
 behind-none count bytes =
     let n : count ≡ count + length {A = List ℕ} [] = omega arith in
     ap (λ z. shortest (array_head z) ++ bytes) n
@@ -28,7 +30,8 @@ behind-more : (count : ℕ) (bytes x : List ℕ) (kept : List (List ℕ))
 behind-more count bytes x kept =
     let n : (count + 1) + length kept ≡ count + length (x ∷ kept) = omega arith in
     ap (λ z. shortest (array_head z) ++ ((bytes ++ x) ++ flat_map (λ x. x) kept)) n
-    ∙ ap (λ z. shortest (array_head (count + length (x ∷ kept))) ++ z) (append_assoc bytes x (flat_map (λ x. x) kept))
+    ∙ ap (λ z. shortest (array_head (count + length (x ∷ kept))) ++ z)
+    (append_assoc bytes x (flat_map (λ x. x) kept))
 
 packed-behind : (count : ℕ) (bytes : List ℕ) (xs : List (List AtomValue))
     → packed_bytes (with_elements (record { count = count; bytes = bytes; is_full = false }) xs)
@@ -37,16 +40,21 @@ packed-behind count bytes [] = behind-none count bytes
 packed-behind count bytes (x ∷ xs) =
     by (nat_le (length bytes + length (spelled x)) most_bytes)
     (packed-behind (count + 1) (bytes ++ spelled x) xs
-    ∙ ap (λ n. array_behind (count + 1) (bytes ++ spelled x) (fitting n (map spelled xs))) (length-append bytes (spelled x)))
+    ∙ ap (λ n. array_behind (count + 1) (bytes ++ spelled x) (fitting n (map spelled xs)))
+    (length-append bytes (spelled x)))
   where
     by : (b : Bool)
-        → (packed_bytes (with_elements (record { count = count + 1; bytes = bytes ++ spelled x; is_full = false }) xs)
-        ≡ array_behind (count + 1) (bytes ++ spelled x) (fitting (length bytes + length (spelled x)) (map spelled xs)))
+        → (packed_bytes (with_elements (record
+        { count = count + 1; bytes = bytes ++ spelled x; is_full = false }) xs)
+        ≡ array_behind (count + 1) (bytes ++ spelled x)
+        (fitting (length bytes + length (spelled x)) (map spelled xs)))
         → packed_bytes (with_elements (cond b
         (record { count = count + 1; bytes = bytes ++ spelled x; is_full = false })
         (record { count = count; bytes = bytes; is_full = true })) xs)
-        ≡ array_behind count bytes (cond b (spelled x ∷ fitting (length bytes + length (spelled x)) (map spelled xs)) [])
-    by true rest = rest ∙ behind-more count bytes (spelled x) (fitting (length bytes + length (spelled x)) (map spelled xs))
+        ≡ array_behind count bytes (cond b
+        (spelled x ∷ fitting (length bytes + length (spelled x)) (map spelled xs)) [])
+    by true rest = rest ∙ behind-more count bytes (spelled x)
+        (fitting (length bytes + length (spelled x)) (map spelled xs))
     by false rest = ap packed_bytes (full-stays count bytes xs) ∙ behind-none count bytes
 
 pub packed_array : (xs : List (List AtomValue)) → packed_bytes (with_elements none_packed xs) ≡ array_bytes xs
@@ -76,7 +84,8 @@ with-part f xs i x p q all l at before e =
     ∙ before
 
 -- all parts
-pub with-parts : {X : Type 0} (f : X → List (List AtomValue)) (xs : List X) (i : ℕ) (p : Packed) → length xs ≤ i
+pub with-parts : {X : Type 0} (f : X → List (List AtomValue)) (xs : List X) (i : ℕ) (p : Packed)
+    → length xs ≤ i
     → with_elements p (flat_map f (drop i xs)) ≡ with_elements none_packed (flat_map f xs)
     → packed_bytes p ≡ array_bytes (flat_map f xs)
 with-parts f xs i p l all =

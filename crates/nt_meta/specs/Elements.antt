@@ -1,5 +1,5 @@
--- The elements of the lists that meta topics hold (NetworkTables 4.1, "Server-Published Meta Topics"): each a map,
--- as the atoms that spell it, with its keys in the order of the standard's tables.
+-- The elements of the lists that meta topics hold (NetworkTables 4.1, "Server-Published Meta Topics"): each a
+-- map, as the atoms that spell it, with its keys in the order of the standard's tables.
 use Rattle.std.specs.Prelude.{ℕ, Bool, true, List, [], ◌∷◌, ◌++◌, length, map, filter, codes, decimal, bytes_eq, if◌then◌else◌}
 use Rattle.std.specs.List.{flat_map}
 use Rattle.nt_msgpack.specs.Atoms.{AtomValue, int, boolean, text, array_head, map_head, shortest}

@@ -48,7 +48,11 @@ client_sub c = record {
 
 -- of the server: its clients, and what it publishes and subscribes to itself, which is nothing
 abbrev pub clients : Roster → MetaNow
-clients r = record { id = id_of 6 1; name = codes "$clients"; bytes = array_bytes (map client_element r.conns) }
+clients r = record {
+  id = id_of 6 1;
+  name = codes "$clients";
+  bytes = array_bytes (map client_element r.conns);
+}
 
 abbrev pub server_pub : MetaNow
 server_pub = record { id = id_of 6 2; name = codes "$server_pub"; bytes = array_bytes [] }

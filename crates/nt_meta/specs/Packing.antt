@@ -1,5 +1,5 @@
--- The array that a list of elements makes: the longest front of them whose spellings have at most 1,048,576 bytes
--- together.
+-- The array that a list of elements makes: the longest front of them whose spellings have at most 1,048,576
+-- bytes together.
 use Rattle.std.specs.Prelude.{ℕ, ◌+◌, Bool, true, false, List, [], ◌∷◌, ◌++◌, length, map, nat_le, if◌then◌else◌}
 use Rattle.std.specs.List.{flat_map}
 use Rattle.nt_msgpack.specs.Atoms.{AtomValue, array_head, shortest}

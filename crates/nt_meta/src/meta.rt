@@ -21,8 +21,8 @@ pub struct MetaNow {
 /// Meta topics, by rising id.
 pub type Metas = ListOf<MetaNow>;
 
-/// The value of the meta topic of this name, and None exactly where none lives. It fails for want of
-/// memory, and where a text or a list in it has a length of 2^32 or more, for which there is no
+/// The value of the meta topic of this name, and None exactly where none lives. It fails for want
+/// of memory, and where a text or a list in it has a length of 2^32 or more, for which there is no
 /// spelling.
 pub fn meta_value(alloc: Global, name: &str, roster: &Roster) -> Result<Option<Bytes>, AllocError>
     ensures { IfOk result (λ value. value ≡ meta_bytes roster.now name.now) }

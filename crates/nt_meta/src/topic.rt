@@ -65,8 +65,8 @@ impl MetaTopic<'_> {
         }
     }
 
-    /// Its value. It fails for want of memory, and where a text or a list in it has a length of 2^32
-    /// or more, for which there is no spelling.
+    /// Its value. It fails for want of memory, and where a text or a list in it has a length of
+    /// 2^32 or more, for which there is no spelling.
     pub fn bytes(&self, alloc: Global, roster: &Roster) -> Result<Bytes, AllocError>
         ensures { IfOk result (λ bytes. bytes ≡ (meta_of roster.now self.now).bytes) }
     {

@@ -17,8 +17,8 @@ const MOST_BYTES: usize = 65_536;
 /// The frames of a batch: one of all texts, where there are any, and then those of the values, in
 /// their order. A value joins the frame before it where that then has at most 65,536 bytes.
 ///
-/// It fails for want of memory, and where a text, bytes or a list in a value has a length of 2^32 or
-/// more, for which there is no spelling.
+/// It fails for want of memory, and where a text, bytes or a list in a value has a length of 2^32
+/// or more, for which there is no spelling.
 pub fn frames_of(
     alloc: Global,
     texts: &[ServerMsg],

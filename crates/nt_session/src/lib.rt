@@ -2,5 +2,7 @@
 #![tactic(auto)]
 
 mod frames;
+mod laws;
 
 pub use frames::{clock_answer, frames_of};
+pub use laws::values_are_laid_in_order;

@@ -99,7 +99,7 @@ hex 94 02 0a 02 07 94 03 0a 02 ff
     Ok(())
 }
 
-/// A message of so many bytes, spelled in 7 bytes more up to 65,535 of them, and in 9 more from there.
+/// A message of so many bytes, spelled in 7 more from 256 to 65,535 of them, and then in 9 more.
 fn raw(alloc: Global, length: usize) -> Result<ValueMsg, AllocError> {
     let mut bytes = Vec::new(alloc);
     for _ in 0..length {

@@ -5,20 +5,23 @@ use Rattle.nt_meta.proofs.find.meta_topic.Goals as goal
 
 pub returns-in-Some : goal.returns-in-Some
 returns-in-Some c =
-    let here : Some c.in-Some.life.now ≡ life_at (codes "$pub$") c.args.roster.now c.args.name.now = search rules in
+    let here : Some c.in-Some.life.now ≡ life_at (codes "$pub$") c.args.roster.now c.args.name.now =
+    search rules in
     found-topic_pub c.args.roster.now c.args.name.now c.in-Some.life.now here
 
 pub returns-in-Some-life_named : goal.returns-in-Some-life_named
 returns-in-Some-life_named c =
     let a : None ≡ life_at (codes "$pub$") c.args.roster.now c.args.name.now = search rules in
-    let here : Some c.in-Some-life_named.life.now ≡ life_at (codes "$sub$") c.args.roster.now c.args.name.now = search rules in
+    let here : Some c.in-Some-life_named.life.now
+    ≡ life_at (codes "$sub$") c.args.roster.now c.args.name.now = search rules in
     found-topic_sub c.args.roster.now c.args.name.now c.in-Some-life_named.life.now a here
 
 pub returns-in-Some-conn_named : goal.returns-in-Some-conn_named
 returns-in-Some-conn_named c =
     let a : None ≡ life_at (codes "$pub$") c.args.roster.now c.args.name.now = search rules in
     let b : None ≡ life_at (codes "$sub$") c.args.roster.now c.args.name.now = search rules in
-    let here : Some c.in-Some-conn_named.conn.now ≡ conn_at (codes "$client_pub$") c.args.roster.now c.args.name.now =
+    let here : Some c.in-Some-conn_named.conn.now
+    ≡ conn_at (codes "$client_pub$") c.args.roster.now c.args.name.now =
     search rules in
     found-client_pub c.args.roster.now c.args.name.now c.in-Some-conn_named.conn.now a b here
 
@@ -27,7 +30,8 @@ returns-in-Some-conn_named-2 c =
     let a : None ≡ life_at (codes "$pub$") c.args.roster.now c.args.name.now = search rules in
     let b : None ≡ life_at (codes "$sub$") c.args.roster.now c.args.name.now = search rules in
     let d : None ≡ conn_at (codes "$client_pub$") c.args.roster.now c.args.name.now = search rules in
-    let here : Some c.in-Some-conn_named-2.conn.now ≡ conn_at (codes "$client_sub$") c.args.roster.now c.args.name.now =
+    let here : Some c.in-Some-conn_named-2.conn.now
+    ≡ conn_at (codes "$client_sub$") c.args.roster.now c.args.name.now =
     search rules in
     found-client_sub c.args.roster.now c.args.name.now c.in-Some-conn_named-2.conn.now a b d here
 
@@ -37,5 +41,6 @@ returns c =
     let b : None ≡ life_at (codes "$sub$") c.args.roster.now c.args.name.now = search rules in
     let d : None ≡ conn_at (codes "$client_pub$") c.args.roster.now c.args.name.now = search rules in
     let e : None ≡ conn_at (codes "$client_sub$") c.args.roster.now c.args.name.now = search rules in
-    found-server c.args.roster.now c.args.name.now (option_map (meta_of c.args.roster.now) c.server_topic.result) a b d e
+    found-server c.args.roster.now c.args.name.now
+    (option_map (meta_of c.args.roster.now) c.server_topic.result) a b d e
     (c.server_topic.ensures c.args.roster.now)

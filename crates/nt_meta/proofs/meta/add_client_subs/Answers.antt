@@ -6,6 +6,7 @@ use Rattle.nt_meta.proofs.meta.add_client_subs.Goals as goal
 pub loop-conn-preserved : goal.loop-conn-preserved
 loop-conn-preserved c =
     let more : c.push.new.self ≡ c.loop-conn.all ++ client_sub c.conn-item.result ∷ [] = search rules in
-    added-next client_sub c.args.roster.now.conns c.as_slice-conn-items.result.now c.loop-conn.conn-index c.conn-item.result
+    added-next client_sub c.args.roster.now.conns c.as_slice-conn-items.result.now c.loop-conn.conn-index
+    c.conn-item.result
     c.loop-conn.all c.push.new.self _ c.as_slice-conn-items.ensures c.loop-conn-test.true c.conn-item.is
     c.loop-conn.invariant more

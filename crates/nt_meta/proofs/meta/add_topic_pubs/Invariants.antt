@@ -5,4 +5,5 @@ use Rattle.nt_meta.proofs.meta.add_topic_pubs.Given as goal
 -- those that were added and those that follow are all
 abbrev pub invariant-loop-life : goal.invariant-loop-life
 invariant-loop-life l =
-    l.all ++ map (topic_pub l.roster) (drop l.life-index l.roster.topics) ≡ l.fn.all ++ map (topic_pub l.roster) l.roster.topics
+    l.all ++ map (topic_pub l.roster) (drop l.life-index l.roster.topics) ≡ l.fn.all
+    ++ map (topic_pub l.roster) l.roster.topics

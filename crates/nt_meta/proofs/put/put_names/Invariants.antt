@@ -6,4 +6,5 @@ use Rattle.nt_meta.proofs.put.put_names.Given as goal
 -- what was written and the names that are left are all
 abbrev pub invariant-loop-name : goal.invariant-loop-name
 invariant-loop-name l =
-    l.out.items ++ spelled (map text (drop l.name-index l.names)) ≡ l.fn.out.items ++ spelled (texts_atoms l.names)
+    l.out.items ++ spelled (map text (drop l.name-index l.names)) ≡ l.fn.out.items
+    ++ spelled (texts_atoms l.names)
