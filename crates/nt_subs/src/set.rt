@@ -56,6 +56,16 @@ impl SubSet {
         }
     }
 
+    /// An equal set. It fails for want of memory alone.
+    pub fn copy(&self, alloc: Global) -> Result<SubSet, AllocError>
+        ensures { IfOk result (λ subs. subs ≡ self.now) }
+    {
+        Ok(SubSet {
+            entries: copy_entries(alloc, &self.entries)?,
+            size: self.size,
+        })
+    }
+
     /// Adds a subscription at its uid, in place of any that stands there. `TooMany` comes exactly
     /// where afterwards there would be more than 1,024, or their names would have more than 131,072
     /// bytes, each with 8 more. It fails for want of memory alone. Then, and at `TooMany`, the set
@@ -146,6 +156,17 @@ impl SubSet {
         self.size += size;
         Ok(Added::New)
     }
+}
+
+/// Equal subscriptions. It fails for want of memory alone.
+fn copy_entries(alloc: Global, entries: &[(i64, Sub)]) -> Result<Vec<(i64, Sub)>, AllocError>
+    ensures { IfOk result (λ copied. copied.items ≡ entries.now) }
+{
+    let mut copied = Vec::new(alloc);
+    for entry in entries {
+        copied.push((entry.0, entry.1.copy(alloc)?))?;
+    }
+    Ok(copied)
 }
 
 /// The place of a uid, or else the one where it would stand.
