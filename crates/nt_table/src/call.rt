@@ -27,7 +27,8 @@ fn begin(
 ) -> Result<Changes, AllocError>
     ensures topics { OnOk result (topics.new.items
         ≡ topics.old.items ++ new_topic id name publisher.typ props (publisher ∷ []) ∷ []) }
-    ensures changes { IfOk result (λ changes. changes ≡ Change.Started (pos id) name publisher.typ props ∷ []) }
+    ensures changes { IfOk result
+        (λ changes. changes ≡ Change.Started (pos id) name publisher.typ props ∷ []) }
 {
     let typ = publisher.typ.copy(alloc)?;
     let changes = one(alloc, started(alloc, id, &name, &typ, &props)?)?;
@@ -56,11 +57,12 @@ pub fn publish_to(
     publisher: Pub,
 ) -> Result<Changes, AllocError>
     requires found { at ≡ position (is_named name) topics.old.items }
-    requires counts { publish_cause topics.old.items next.old publisher.conn publisher.uid name props ≡ None }
+    requires counts { publish_cause topics.old.items next.old publisher.conn publisher.uid name props
+        ≡ None }
     ensures changes { IfOk result
         (λ changes. changes ≡ publish_changes topics.old.items next.old name publisher.typ props) }
-    ensures topics { OnOk result
-        (topics.new.items ≡ published topics.old.items next.old name publisher.typ props publisher) }
+    ensures topics { OnOk result (topics.new.items
+        ≡ published topics.old.items next.old name publisher.typ props publisher) }
     ensures next { OnOk result (next.new ≡ next_after topics.old.items next.old name) }
 {
     match at {

@@ -55,7 +55,8 @@ pub fn publish_cause(
 ) -> Option<Cause>
     requires indexed { IsIndexed index.now topics.now next }
     requires found { at ≡ position (is_named name.now) topics.now }
-    ensures { result ≡ publish_cause topics.now next publisher.now.conn publisher.now.uid name.now props.now }
+    ensures { result ≡ publish_cause topics.now next publisher.now.conn publisher.now.uid
+        name.now props.now }
 {
     if is_special(name.as_str()) {
         return Some(Cause::Special);

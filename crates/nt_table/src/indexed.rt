@@ -91,9 +91,11 @@ fn note(
 ) -> Result<(), AllocError>
     requires indexed { IsIndexed index.old topics.now next }
     requires found { at ≡ position (is_named name.now) topics.now }
-    requires fresh { list_any (has_publisher publisher.now.conn publisher.now.uid) topics.now ≡ false }
+    requires fresh { list_any (has_publisher publisher.now.conn publisher.now.uid) topics.now
+        ≡ false }
     ensures { (typ : List ℕ) → (props : Data) → OnOk result (IsIndexed index.new
-        (published topics.now next name.now typ props publisher.now) (next_after topics.now next name.now)) }
+        (published topics.now next name.now typ props publisher.now)
+        (next_after topics.now next name.now)) }
 {
     match at {
         Some(i) => index.note(alloc, publisher, topics[i].id),

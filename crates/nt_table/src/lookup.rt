@@ -133,7 +133,8 @@ pub fn is_fit(topic: &Topic, conn: u32, uid: i64, value: &Value) -> bool
 
 /// Whether such a publisher has this type.
 fn publishes_as(publishers: &[Pub], typ: &str, conn: u32, uid: i64) -> bool
-    ensures { result ≡ list_any (λ p. is_publisher conn uid p && bytes_eq p.typ typ.now) publishers.now }
+    ensures { result
+        ≡ list_any (λ p. is_publisher conn uid p && bytes_eq p.typ typ.now) publishers.now }
 {
     publishers
         .iter()

@@ -57,13 +57,14 @@ impl Table {
 
     /// Begins a saved topic, with the next id and no publisher. Its value has the time 0.
     ///
-    /// It is ignored with the first of `TopicsFull`, `IdsSpent` and `OtherType` that holds. It fails
-    /// for want of memory alone.
+    /// It is ignored with the first of `TopicsFull`, `IdsSpent` and `OtherType` that holds. It
+    /// fails for want of memory alone.
     pub fn restore(&mut self, alloc: Global, saved: Saved) -> Result<Outcome, AllocError>
         requires unnamed { list_any (is_named saved.name) self.old.topics ≡ false }
         requires plain { is_special saved.name ≡ false }
         ensures answer { IfOk result (λ o. o ≡ outcome_of
-            (restore_cause self.old.topics self.old.next saved) (restore_changes self.old.next saved)) }
+            (restore_cause self.old.topics self.old.next saved)
+            (restore_changes self.old.next saved)) }
         ensures topics { OnOk result (self.new.topics ≡ if_counts
             (restore_cause self.old.topics self.old.next saved)
             (restored self.old.topics self.old.next saved) self.old.topics) }
@@ -90,9 +91,9 @@ impl Table {
     /// Publishes to the topic of this name, which keeps its type and properties, or begins it with
     /// the next id and these (NetworkTables 4.1, "Publish Request Message").
     ///
-    /// It is ignored with the first of `Special`, `UidInUse`, `PubsFull` and, where no topic of that
-    /// name lives, `PropsFull`, `TopicsFull` and `IdsSpent` that holds. It fails for want of memory
-    /// alone.
+    /// It is ignored with the first of `Special`, `UidInUse`, `PubsFull` and, where no topic of
+    /// that name lives, `PropsFull`, `TopicsFull` and `IdsSpent` that holds. It fails for want of
+    /// memory alone.
     pub fn publish(
         &mut self,
         alloc: Global,
@@ -140,7 +141,8 @@ impl Table {
     /// It is ignored exactly with `NoSuchUid`. It fails for want of memory alone.
     pub fn unpublish(&mut self, alloc: Global, conn: u32, uid: i64) -> Result<Outcome, AllocError>
         ensures answer { IfOk result (λ o. o ≡ outcome_of
-            (unpublish_cause self.old.topics conn uid) (unpublish_changes self.old.topics conn uid)) }
+            (unpublish_cause self.old.topics conn uid)
+            (unpublish_changes self.old.topics conn uid)) }
         ensures topics { OnOk result (self.new.topics ≡ if_counts
             (unpublish_cause self.old.topics conn uid)
             (unpublished self.old.topics conn uid) self.old.topics) }
@@ -190,8 +192,8 @@ impl Table {
     /// Puts a value, with a time in microseconds, to the topic of the publisher (NetworkTables 4.1,
     /// "MessagePack Data").
     ///
-    /// It is ignored with the first of `NoSuchUid`, `OtherType` and `Older` that holds. It fails for
-    /// want of memory alone.
+    /// It is ignored with the first of `NoSuchUid`, `OtherType` and `Older` that holds. It fails
+    /// for want of memory alone.
     pub fn put(
         &mut self,
         alloc: Global,
@@ -256,8 +258,8 @@ impl Table {
         self.topics.len()
     }
 
-    /// The topic at this index, by rising id. In a table that hasn't failed its id is below those of
-    /// the topics behind it, and below the next one.
+    /// The topic at this index, by rising id. In a table that hasn't failed its id is below those
+    /// of the topics behind it, and below the next one.
     pub fn at(&self, i: usize) -> &Topic
         requires { i < length self.now.topics }
         ensures topic { slice_get self.now.topics i ≡ Some result.now }
