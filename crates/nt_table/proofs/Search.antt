@@ -81,6 +81,15 @@ no-place id (t ∷ ts) none =
         by true f = absurd (none zero t (omega arith) (sym (f refl)))
         by false f = refl
 
+-- where a topic with this id stands
+pub at-place : (id : ℕ) (ts : List Topic) (i : ℕ) (t : Topic) → IsRising 0 ts → i < length ts → t ≡ get_or ts i t → t.id ≡ id
+    → Some i ≡ position (is_at (Some id)) ts
+at-place id ts i t rising within here at =
+    let same : (get_or ts i t).id ≡ id = ap (λ t. t.id) (sym here) ∙ at in
+    let place : position_or_len (is_at (Some id)) ts ≡ i = place-of id 0 ts i t rising within same in
+    let inside : ltb i (length ts) ≡ true = grind (arith, nat_tests) in
+    sym (ap (λ n. cond (ltb n (length ts)) (Some n) None) place ∙ ap (λ b. cond b (Some i) None) inside)
+
 -- what the search answers
 pub searched : (id : ℕ) (ts : List Topic) (r : Result ℕ ℕ) → IsRising 0 ts → IsSearchInRange r (length ts)
     → IsBinarySearchResult (λ t. nat_cmp t.id id) ts r → result_ok r ≡ position (is_at (Some id)) ts

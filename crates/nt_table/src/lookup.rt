@@ -1,6 +1,6 @@
 //! Looking through topics.
 
-ghost use Rattle.std.specs.Prelude.{◌≡◌, Some, not, option_copied, filter, length, ◌&&◌, bytes_eq};
+ghost use Rattle.std.specs.Prelude.{◌≡◌, ◌<◌, Some, IfSome, not, option_copied, filter, length, ◌&&◌, bytes_eq};
 ghost use Rattle.std.specs.List.{list_any, find, position};
 ghost use Rattle.nt_table.specs.Index.{IsRising, is_at};
 ghost use Rattle.nt_table.specs.Topics.{is_publisher, is_of, has_conn, is_named, lives_on, outlives, is_fit, is_older, is_value_of, is_too_long, is_saved_fit};
@@ -32,6 +32,26 @@ pub fn position_at(topics: &[Topic], id: Option<u32>) -> Option<usize>
 
 /// The position of the topic of this id, where ids rise.
 fn position_of_id(topics: &[Topic], id: u32) -> Option<usize>
+    requires { IsRising 0 topics.now }
+    ensures { result ≡ position (is_at (Some id)) topics.now }
+{
+    match position_without_gaps(topics, id) {
+        Some(i) if topics[i].id == id => Some(i),
+        _ => position_by_search(topics, id),
+    }
+}
+
+/// Where the topic of this id is, unless an id before it is missing.
+fn position_without_gaps(topics: &[Topic], id: u32) -> Option<usize>
+    ensures { IfSome result (λ i. i < length topics.now) }
+{
+    let first = topics.first()?.id;
+    let i = id.checked_sub(first)? as usize;
+    if i < topics.len() { Some(i) } else { None }
+}
+
+/// The position of the topic of this id, where ids rise, by a binary search.
+fn position_by_search(topics: &[Topic], id: u32) -> Option<usize>
     requires { IsRising 0 topics.now }
     ensures { result ≡ position (is_at (Some id)) topics.now }
 {

@@ -1,7 +1,7 @@
 use Rattle.std.proofs.Common.{rules, ◌∙◌}
 use Rattle.std.proofs.lemmas.List.Sorted.{answers_always}
 use Rattle.nt_table.proofs.Search.{searched}
-use Rattle.nt_table.proofs.lookup.position_of_id.Goals as goal
+use Rattle.nt_table.proofs.lookup.position_by_search.Goals as goal
 
 pub returns : goal.returns
 returns c =
