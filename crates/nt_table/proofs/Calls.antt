@@ -40,6 +40,11 @@ pub on-ok : {A E P Q : Type 0} (r : Result A E) → (P → Q) → OnOk r P → O
 on-ok (Ok x) f h = f h
 on-ok (Err e) f h = h
 
+-- two facts on an Ok lead to another
+pub on-ok-2 : {A E P Q R : Type 0} (r : Result A E) → (P → Q → R) → OnOk r P → OnOk r Q → OnOk r R
+on-ok-2 (Ok x) f h k = f h k
+on-ok-2 (Err e) f h k = h
+
 -- the first topic that passes is changed, and taken out where nothing of it is left
 pub settled-first : (test : Topic → Bool) (g : Topic → Topic) (ts : List Topic) (i : ℕ) (r y : Topic) → IsFirst test ts i r
     → y ≡ g r → change_at left_of i (set ts i y) ≡ change_first test (λ t. left_of (g t)) ts
@@ -71,6 +76,18 @@ next-within ts next conn uid name props e unnamed =
         new (is_too_long props) (sym (ap (λ b. cond b None (new_cause (length ts) next props)) unnamed) ∙ e)
 
 -- ---- publish
+
+-- the first cause that refuses a publish, by what is so
+pub refused : (ts : List Topic) (next conn : ℕ) (uid : ℤ) (name : List ℕ) (props : Data) (special used full living : Bool)
+    → is_special name ≡ special → list_any (has_publisher conn uid) ts ≡ used → leb most_publishers (publishers_of conn ts) ≡ full
+    → list_any (is_named name) ts ≡ living
+    → cond special (Some Special) (cond used (Some UidInUse) (cond full (Some PubsFull) (cond living None (new_cause (length ts) next props))))
+    ≡ publish_cause ts next conn uid name props
+refused ts next conn uid name props special used full living a b c d =
+    sym (ap (λ s. cond s (Some Special) (cond (list_any (has_publisher conn uid) ts) (Some UidInUse) (cond (leb most_publishers (publishers_of conn ts)) (Some PubsFull) (cond (list_any (is_named name) ts) None (new_cause (length ts) next props))))) a
+    ∙ ap (λ u. cond special (Some Special) (cond u (Some UidInUse) (cond (leb most_publishers (publishers_of conn ts)) (Some PubsFull) (cond (list_any (is_named name) ts) None (new_cause (length ts) next props))))) b
+    ∙ ap (λ f. cond special (Some Special) (cond used (Some UidInUse) (cond f (Some PubsFull) (cond (list_any (is_named name) ts) None (new_cause (length ts) next props))))) c
+    ∙ ap (λ l. cond special (Some Special) (cond used (Some UidInUse) (cond full (Some PubsFull) (cond l None (new_cause (length ts) next props))))) d)
 
 -- a publish of a living topic adds the publisher, and tells nothing
 module _ (ts : List Topic) (next : ℕ) (name typ : List ℕ) (props : Data) (p : Pub) where

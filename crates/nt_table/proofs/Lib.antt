@@ -1,3 +1,7 @@
 pub mod Positions
 pub mod Calls
 pub mod Puts
+pub mod Numbers
+pub mod Filed
+pub mod Steps
+pub mod Search

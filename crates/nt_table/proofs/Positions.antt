@@ -1,6 +1,7 @@
 -- The first item that passes a test, by its position.
 use Rattle.std.proofs.Common.{◌≡◌, ◌<◌, ◌≤◌, ◌+◌, ℕ, zero, suc, Bool, true, false, cond, ltb, not, ◌||◌, List, [], ◌∷◌, Option, Some, None, length, get_or, set, refl, sym, ◌∙◌, ap, arith}
 use Rattle.std.specs.Prelude.{remove}
+use Rattle.std.specs.Option.{is_some}
 use Rattle.std.specs.List.{list_any, find, position, position_or_len, cons_option}
 use Rattle.std.proofs.lemmas.Bool.Decides.{nat_tests}
 use Rattle.std.proofs.lemmas.List.Quantifiers.{position-Some}
@@ -47,6 +48,23 @@ position-None {X} test ys xs same e =
             → length (x ∷ xs) ≤ cond (not b) (1 + position_or_len test xs) 0 → (b || list_any test xs) ≡ false
         on more true h = absurd (omega arith)
         on more false h = more (omega arith)
+
+-- there is a position where one passes
+pub any-position : {X : Type 0} (test : X → Bool) (xs : List X) (o : Option ℕ) → o ≡ position test xs → list_any test xs ≡ is_some o
+any-position test xs None e = position-None test xs xs refl e
+any-position {X} test [] (Some i) e = absurd (cc)
+any-position {X} test (x ∷ xs) (Some i) e =
+    let h = position-Some test (x ∷ xs) i (get_or (x ∷ xs) i x) (sym e) in
+    any-at (x ∷ xs) i (get_or (x ∷ xs) i x) h.0 h.1
+  where
+    any-at : (xs : List X) (i : ℕ) (d : X) → i < length xs → test (get_or xs i d) ≡ true → list_any test xs ≡ true
+    any-at [] i d within passes = absurd (omega arith)
+    any-at (x ∷ xs) zero d within passes = ap (λ b. b || list_any test xs) passes
+    any-at (x ∷ xs) (suc i) d within passes = on (test x) (any-at xs i d (omega arith) passes)
+      where
+        on : (b : Bool) → list_any test xs ≡ true → (b || list_any test xs) ≡ true
+        on true h = refl
+        on false h = h
 
 -- where one is the first, one passes
 pub any-first : {X : Type 0} (test : X → Bool) (xs : List X) (i : ℕ) (r : X) → IsFirst test xs i r

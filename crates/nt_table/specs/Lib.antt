@@ -1,3 +1,4 @@
 pub mod Topics
 pub mod Changes
 pub mod Puts
+pub mod Index

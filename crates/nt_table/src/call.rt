@@ -1,16 +1,16 @@
 //! The calls on a list of topics.
 
 ghost use Rattle.std.specs.Prelude.{◌≡◌, ◌+◌, ◌<◌, vec_len, pos, option_map, None, [], ◌∷◌, ◌++◌, IfOk, OnOk};
-ghost use Rattle.nt_table.specs.Topics.{change_at, if_counts, left_of, with_update, new_topic, publish_cause, published, next_after, unpublish_cause, unpublished, update_cause, with_props, put_cause, with_put, dropped, restore_cause, restored, restored_topic, at_zero};
+ghost use Rattle.std.specs.List.{position};
+ghost use Rattle.nt_table.specs.Topics.{is_named, has_publisher, change_at, if_counts, left_of, with_update, new_topic, publish_cause, published, next_after, unpublish_cause, unpublished, update_cause, with_props, put_cause, with_put, dropped, restore_cause, restored, restored_topic, at_zero};
 ghost use Rattle.nt_topics.specs.Properties.{updated};
 ghost use Rattle.nt_table.specs.Changes.{outcome_of, update_change, publish_changes, unpublish_changes, update_changes, put_changes, drop_changes, restored_value, restore_changes};
 
-use crate::cause::{publish_cause, restore_cause};
 use crate::edit::{
     add_publisher, changed, drop_publisher, end_of, ended, ends_of_conn, leave, one, put_to,
     settle, started, told_name,
 };
-use crate::lookup::{is_too_long, lives_on, position_of_name, position_of_publisher};
+use crate::lookup::{is_too_long, lives_on};
 use crate::topic::{Cause, Change, Changes, Outcome, Pub, Pubs, Saved, Timed, Topic};
 use nt_topics::{Props, TopicName, TypeName, Update};
 use nt_values::Value;
@@ -27,7 +27,8 @@ fn begin(
 ) -> Result<Changes, AllocError>
     ensures topics { OnOk result (topics.new.items
         ≡ topics.old.items ++ new_topic id name publisher.typ props (publisher ∷ []) ∷ []) }
-    ensures changes { IfOk result (λ changes. changes ≡ Change.Started (pos id) name publisher.typ props ∷ []) }
+    ensures changes { IfOk result
+        (λ changes. changes ≡ Change.Started (pos id) name publisher.typ props ∷ []) }
 {
     let typ = publisher.typ.copy(alloc)?;
     let changes = one(alloc, started(alloc, id, &name, &typ, &props)?)?;
@@ -44,23 +45,27 @@ fn begin(
     Ok(changes)
 }
 
-/// Publishes to the topic of this name, or begins it with the next id, where no cause refuses it.
-fn publish_to(
+/// Publishes to the topic of this name, which is at this position, or begins it with the next id,
+/// where no cause refuses it.
+pub fn publish_to(
     alloc: Global,
     topics: &mut Vec<Topic>,
     next: &mut u32,
     name: TopicName,
+    at: Option<usize>,
     props: Props,
     publisher: Pub,
 ) -> Result<Changes, AllocError>
-    requires { publish_cause topics.old.items next.old publisher.conn publisher.uid name props ≡ None }
+    requires found { at ≡ position (is_named name) topics.old.items }
+    requires counts { publish_cause topics.old.items next.old publisher.conn publisher.uid name props
+        ≡ None }
     ensures changes { IfOk result
         (λ changes. changes ≡ publish_changes topics.old.items next.old name publisher.typ props) }
-    ensures topics { OnOk result
-        (topics.new.items ≡ published topics.old.items next.old name publisher.typ props publisher) }
+    ensures topics { OnOk result (topics.new.items
+        ≡ published topics.old.items next.old name publisher.typ props publisher) }
     ensures next { OnOk result (next.new ≡ next_after topics.old.items next.old name) }
 {
-    match position_of_name(topics, name.as_str()) {
+    match at {
         Some(i) => {
             add_publisher(&mut topics[i], publisher)?;
             Ok(Changes::empty(alloc))
@@ -73,48 +78,23 @@ fn publish_to(
     }
 }
 
-/// Publishes to the topic of this name, or begins it with the next id.
-pub fn publish(
-    alloc: Global,
-    topics: &mut Vec<Topic>,
-    next: &mut u32,
-    name: TopicName,
-    props: Props,
-    publisher: Pub,
-) -> Result<Outcome, AllocError>
-    ensures answer { IfOk result (λ o. o ≡ outcome_of
-        (publish_cause topics.old.items next.old publisher.conn publisher.uid name props)
-        (publish_changes topics.old.items next.old name publisher.typ props)) }
-    ensures topics { OnOk result (topics.new.items ≡ if_counts
-        (publish_cause topics.old.items next.old publisher.conn publisher.uid name props)
-        (published topics.old.items next.old name publisher.typ props publisher) topics.old.items) }
-    ensures next { OnOk result (next.new ≡ if_counts
-        (publish_cause topics.old.items next.old publisher.conn publisher.uid name props)
-        (next_after topics.old.items next.old name) next.old) }
-{
-    match publish_cause(topics, *next, publisher.conn, publisher.uid, &name, &props) {
-        Some(cause) => Ok(Outcome::Ignored(cause)),
-        None => {
-            let changes = publish_to(alloc, topics, next, name, props, publisher)?;
-            Ok(Outcome::Done(changes))
-        }
-    }
-}
-
-/// Takes the publisher out of its topic, and the topic where nothing of it is left.
+/// Takes the publisher out of its topic, which is at this position, and the topic where nothing of
+/// it is left.
 pub fn unpublish(
     alloc: Global,
     topics: &mut Vec<Topic>,
+    at: Option<usize>,
     conn: u32,
     uid: i64,
 ) -> Result<Outcome, AllocError>
+    requires { at ≡ position (has_publisher conn uid) topics.old.items }
     ensures answer { IfOk result (λ o. o ≡ outcome_of
         (unpublish_cause topics.old.items conn uid) (unpublish_changes topics.old.items conn uid)) }
     ensures topics { OnOk result (topics.new.items ≡ if_counts
         (unpublish_cause topics.old.items conn uid)
         (unpublished topics.old.items conn uid) topics.old.items) }
 {
-    match position_of_publisher(topics, conn, uid) {
+    match at {
         Some(i) => {
             drop_publisher(alloc, &mut topics[i], conn, uid);
             let changes = end_of(alloc, &topics[i])?;
@@ -151,13 +131,16 @@ fn update_topic(
     Ok(changes)
 }
 
-/// Updates the properties of the topic of this name, and takes it out where nothing of it is left.
+/// Updates the properties of the topic of this name, which is at this position, and takes it out
+/// where nothing of it is left.
 pub fn set_props(
     alloc: Global,
     topics: &mut Vec<Topic>,
+    at: Option<usize>,
     name: &TopicName,
     update: Update,
 ) -> Result<Outcome, AllocError>
+    requires { at ≡ position (is_named name.now) topics.old.items }
     ensures answer { IfOk result (λ o. o ≡ outcome_of
         (update_cause topics.old.items name.now update)
         (update_changes topics.old.items name.now update)) }
@@ -165,7 +148,7 @@ pub fn set_props(
         (update_cause topics.old.items name.now update)
         (with_props topics.old.items name.now update) topics.old.items) }
 {
-    match position_of_name(topics, name.as_str()) {
+    match at {
         Some(i) => {
             let props = topics[i].props.updated(alloc, &update)?;
             if is_too_long(&props) {
@@ -179,15 +162,17 @@ pub fn set_props(
     }
 }
 
-/// Puts a value to the topic of the publisher.
+/// Puts a value to the topic of the publisher, which is at this position.
 pub fn put(
     alloc: Global,
     topics: &mut Vec<Topic>,
+    at: Option<usize>,
     conn: u32,
     uid: i64,
     time: u64,
     value: Value,
 ) -> Result<Outcome, AllocError>
+    requires { at ≡ position (has_publisher conn uid) topics.old.items }
     ensures answer { IfOk result (λ o. o ≡ outcome_of
         (put_cause topics.old.items conn uid time value)
         (put_changes topics.old.items conn uid time value)) }
@@ -195,7 +180,7 @@ pub fn put(
         (put_cause topics.old.items conn uid time value)
         (with_put topics.old.items conn uid time value) topics.old.items) }
 {
-    match position_of_publisher(topics, conn, uid) {
+    match at {
         Some(i) => put_to(alloc, &mut topics[i], conn, uid, time, value),
         None => {
             drop(value);
@@ -250,26 +235,20 @@ fn at_zero(value: Option<Value>) -> Option<Timed>
     }
 }
 
-/// Begins a saved topic with the next id.
+/// Begins a saved topic with the next id, where no cause refuses it.
 pub fn restore(
     alloc: Global,
     topics: &mut Vec<Topic>,
     next: &mut u32,
     saved: Saved,
-) -> Result<Outcome, AllocError>
-    ensures answer { IfOk result (λ o. o ≡ outcome_of
-        (restore_cause topics.old.items next.old saved) (restore_changes next.old saved)) }
-    ensures topics { OnOk result (topics.new.items ≡ if_counts
-        (restore_cause topics.old.items next.old saved)
-        (restored topics.old.items next.old saved) topics.old.items) }
-    ensures next { OnOk result (next.new ≡ if_counts
-        (restore_cause topics.old.items next.old saved) (next.old + 1) next.old) }
+) -> Result<Changes, AllocError>
+    requires { restore_cause topics.old.items next.old saved ≡ None }
+    ensures changes { IfOk result (λ changes. changes ≡ restore_changes next.old saved) }
+    ensures topics { OnOk result (topics.new.items ≡ restored topics.old.items next.old saved) }
+    ensures next { OnOk result (next.new ≡ next.old + 1) }
 {
-    if let Some(cause) = restore_cause(topics, *next, &saved) {
-        return Ok(Outcome::Ignored(cause));
-    }
     let changes = restore_changes(alloc, *next, &saved)?;
     topics.push(restored_topic(alloc, *next, saved))?;
     *next += 1;
-    Ok(Outcome::Done(changes))
+    Ok(changes)
 }

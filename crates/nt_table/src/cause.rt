@@ -1,15 +1,18 @@
 //! The causes that refuse a call, in the order of the rules.
 
 ghost use Rattle.std.specs.Prelude.{◌≡◌};
-ghost use Rattle.nt_table.specs.Topics.{room_cause, new_cause, publish_cause, put_cause_to, restore_cause};
+ghost use Rattle.std.specs.List.{position};
+ghost use Rattle.nt_table.specs.Index.{IsIndexed};
+ghost use Rattle.nt_table.specs.Topics.{is_named, room_cause, new_cause, publish_cause, put_cause_to, restore_cause};
 
-use crate::lookup::{
-    any_has_publisher, any_is_named, has_most_publishers, holds_newer, is_fit, is_saved_fit,
-    is_too_long,
-};
-use crate::topic::{Cause, Saved, Topic};
+use crate::index::Index;
+use crate::lookup::{holds_newer, is_fit, is_saved_fit, is_too_long};
+use crate::topic::{Cause, Pub, Saved, Topic};
 use nt_topics::{Props, TopicName, is_special};
 use nt_values::Value;
+
+/// The most publishers of one connection.
+const MOST_PUBLISHERS: usize = 16_384;
 
 /// The most living topics.
 const MOST_TOPICS: usize = 16_384;
@@ -40,27 +43,31 @@ fn new_cause(count: usize, next: u32, props: &Props) -> Option<Cause>
     room_cause(count, next)
 }
 
-/// The first cause that refuses a publish.
+/// The first cause that refuses a publish, where the topic of this name is at this position.
 pub fn publish_cause(
     topics: &[Topic],
+    index: &Index,
     next: u32,
-    conn: u32,
-    uid: i64,
+    publisher: &Pub,
     name: &TopicName,
+    at: Option<usize>,
     props: &Props,
 ) -> Option<Cause>
-    ensures { result ≡ publish_cause topics.now next conn uid name.now props.now }
+    requires indexed { IsIndexed index.now topics.now next }
+    requires found { at ≡ position (is_named name.now) topics.now }
+    ensures { result ≡ publish_cause topics.now next publisher.now.conn publisher.now.uid
+        name.now props.now }
 {
     if is_special(name.as_str()) {
         return Some(Cause::Special);
     }
-    if any_has_publisher(topics, conn, uid) {
+    if index.id_of(publisher.conn, publisher.uid).is_some() {
         return Some(Cause::UidInUse);
     }
-    if has_most_publishers(topics, conn) {
+    if index.count_of(publisher.conn) >= MOST_PUBLISHERS {
         return Some(Cause::PubsFull);
     }
-    if any_is_named(topics, name.as_str()) {
+    if at.is_some() {
         return None;
     }
     new_cause(topics.len(), next, props)

@@ -108,7 +108,8 @@ fn without_publisher(publishers: Pubs, conn: u32, uid: i64) -> Pubs
 }
 
 fn keep_other_publishers(publishers: &mut Vec<Pub>, conn: u32, uid: i64)
-    ensures { publishers.new.items ≡ filter (λ p. not (is_publisher conn uid p)) publishers.old.items }
+    ensures { publishers.new.items
+        ≡ filter (λ p. not (is_publisher conn uid p)) publishers.old.items }
 {
     publishers.retain(|p| !is_publisher(p, conn, uid));
 }
@@ -145,9 +146,11 @@ pub fn put_to(
     value: Value,
 ) -> Result<Outcome, AllocError>
     ensures answer { IfOk result
-        (λ o. o ≡ outcome_of (put_cause_to conn uid time value topic.old) (put_change time value topic.old)) }
+        (λ o. o ≡ outcome_of (put_cause_to conn uid time value topic.old)
+        (put_change time value topic.old)) }
     ensures topic { OnOk result (topic.new
-        ≡ if_counts (put_cause_to conn uid time value topic.old) (with_value time value topic.old) topic.old) }
+        ≡ if_counts (put_cause_to conn uid time value topic.old)
+        (with_value time value topic.old) topic.old) }
 {
     if let Some(cause) = put_cause(topic, conn, uid, time, &value) {
         drop(value);

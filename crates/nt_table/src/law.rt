@@ -8,7 +8,8 @@ ghost use Rattle.nt_table.specs.Puts.{Put, Sent, greatest, taken, newest, held, 
 /// Two lists of puts whose times are all different and that have the same members have the same
 /// greatest, in whatever order they came.
 pub fn same_puts_hold_the_same()
-    ensures { (ps qs : List Put) → HasDifferentTimes ps → HasSameMembers ps qs → greatest ps ≡ greatest qs }
+    ensures { (ps qs : List Put) → HasDifferentTimes ps → HasSameMembers ps qs
+        → greatest ps ≡ greatest qs }
 {}
 
 /// After any puts to a topic, from whichever publishers, it holds the greatest of those that fit it

@@ -5,6 +5,8 @@
 mod call;
 mod cause;
 mod edit;
+mod index;
+mod indexed;
 mod law;
 mod lookup;
 mod table;

@@ -1,15 +1,13 @@
 //! Looking through topics.
 
-ghost use Rattle.std.specs.Prelude.{◌≡◌, count_by, not, nat_le, option_copied, filter, length, ◌&&◌, bytes_eq};
+ghost use Rattle.std.specs.Prelude.{◌≡◌, ◌<◌, Some, IfSome, not, option_copied, filter, length, ◌&&◌, bytes_eq};
 ghost use Rattle.std.specs.List.{list_any, find, position};
-ghost use Rattle.nt_table.specs.Topics.{is_publisher, is_of, has_publisher, has_conn, publishers_of, most_publishers, is_named, lives_on, outlives, is_fit, is_older, is_value_of, is_too_long, is_saved_fit};
+ghost use Rattle.nt_table.specs.Index.{IsRising, is_at};
+ghost use Rattle.nt_table.specs.Topics.{is_publisher, is_of, has_conn, is_named, lives_on, outlives, is_fit, is_older, is_value_of, is_too_long, is_saved_fit};
 
 use crate::topic::{Pub, Topic};
 use nt_topics::Props;
 use nt_values::Value;
-
-/// The most publishers of one connection.
-const MOST_PUBLISHERS: usize = 16_384;
 
 /// The most bytes of the compact text of a topic's properties.
 const MOST_PROPERTIES: u64 = 65_536;
@@ -21,29 +19,43 @@ pub fn is_publisher(publisher: &Pub, conn: u32, uid: i64) -> bool
     publisher.conn == conn && publisher.uid == uid
 }
 
-/// Whether the topic has such a publisher.
-fn has_publisher(topic: &Topic, conn: u32, uid: i64) -> bool
-    ensures { result ≡ has_publisher conn uid topic.now }
+/// The position of the topic at which an id was found, if it was, where ids rise.
+pub fn position_at(topics: &[Topic], id: Option<u32>) -> Option<usize>
+    requires { IsRising 0 topics.now }
+    ensures { result ≡ position (is_at id) topics.now }
 {
-    topic
-        .pubs
-        .as_slice()
-        .iter()
-        .any(|p| is_publisher(p, conn, uid))
+    match id {
+        Some(id) => position_of_id(topics, id),
+        None => None,
+    }
 }
 
-/// Whether any topic has such a publisher.
-pub fn any_has_publisher(topics: &[Topic], conn: u32, uid: i64) -> bool
-    ensures { result ≡ list_any (has_publisher conn uid) topics.now }
+/// The position of the topic of this id, where ids rise.
+fn position_of_id(topics: &[Topic], id: u32) -> Option<usize>
+    requires { IsRising 0 topics.now }
+    ensures { result ≡ position (is_at (Some id)) topics.now }
 {
-    topics.iter().any(|t| has_publisher(t, conn, uid))
+    match position_without_gaps(topics, id) {
+        Some(i) if topics[i].id == id => Some(i),
+        _ => position_by_search(topics, id),
+    }
 }
 
-/// The position of the first topic with such a publisher.
-pub fn position_of_publisher(topics: &[Topic], conn: u32, uid: i64) -> Option<usize>
-    ensures { result ≡ position (has_publisher conn uid) topics.now }
+/// Where the topic of this id is, unless an id before it is missing.
+fn position_without_gaps(topics: &[Topic], id: u32) -> Option<usize>
+    ensures { IfSome result (λ i. i < length topics.now) }
 {
-    topics.iter().position(|t| has_publisher(t, conn, uid))
+    let first = topics.first()?.id;
+    let i = id.checked_sub(first)? as usize;
+    if i < topics.len() { Some(i) } else { None }
+}
+
+/// The position of the topic of this id, where ids rise, by a binary search.
+fn position_by_search(topics: &[Topic], id: u32) -> Option<usize>
+    requires { IsRising 0 topics.now }
+    ensures { result ≡ position (is_at (Some id)) topics.now }
+{
+    topics.binary_search_by_key(&id, |t| t.id).ok()
 }
 
 /// Whether the connection publishes to the topic.
@@ -51,30 +63,6 @@ fn has_conn(topic: &Topic, conn: u32) -> bool
     ensures { result ≡ has_conn conn topic.now }
 {
     topic.pubs.as_slice().iter().any(|p| p.conn == conn)
-}
-
-/// How many publishers of the topic are this connection's.
-fn publishers_in(topic: &Topic, conn: u32) -> usize
-    ensures { result ≡ count_by (is_of conn) topic.now.pubs }
-{
-    topic
-        .pubs
-        .as_slice()
-        .iter()
-        .filter(|p| p.conn == conn)
-        .count()
-}
-
-/// Whether the connection has as many publishers as it may have.
-pub fn has_most_publishers(topics: &[Topic], conn: u32) -> bool
-    ensures { result ≡ nat_le most_publishers (publishers_of conn topics.now) }
-{
-    let mut count: usize = 0;
-    for topic in topics {
-        let more = publishers_in(topic, conn).min(MOST_PUBLISHERS);
-        count = (count + more).min(MOST_PUBLISHERS);
-    }
-    count == MOST_PUBLISHERS
 }
 
 /// How many publishers are of other connections.
@@ -97,21 +85,14 @@ fn is_named(topic: &Topic, name: &str) -> bool
     topic.name.as_str() == name
 }
 
-/// Whether any topic has this name.
-pub fn any_is_named(topics: &[Topic], name: &str) -> bool
-    ensures { result ≡ list_any (is_named name.now) topics.now }
-{
-    topics.iter().any(|t| is_named(t, name))
-}
-
-/// The position of the topic of this name.
-pub fn position_of_name(topics: &[Topic], name: &str) -> Option<usize>
+/// The position of the topic of this name, with no index.
+fn position_of_name(topics: &[Topic], name: &str) -> Option<usize>
     ensures { result ≡ position (is_named name.now) topics.now }
 {
     topics.iter().position(|t| is_named(t, name))
 }
 
-/// The topic of this name.
+/// The topic of this name, with no index.
 pub fn topic_of_name<'a>(topics: &'a [Topic], name: &str) -> Option<&'a Topic>
     ensures { option_copied result ≡ find (is_named name.now) topics.now }
 {
@@ -172,7 +153,8 @@ pub fn is_fit(topic: &Topic, conn: u32, uid: i64, value: &Value) -> bool
 
 /// Whether such a publisher has this type.
 fn publishes_as(publishers: &[Pub], typ: &str, conn: u32, uid: i64) -> bool
-    ensures { result ≡ list_any (λ p. is_publisher conn uid p && bytes_eq p.typ typ.now) publishers.now }
+    ensures { result
+        ≡ list_any (λ p. is_publisher conn uid p && bytes_eq p.typ typ.now) publishers.now }
 {
     publishers
         .iter()

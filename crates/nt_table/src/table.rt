@@ -1,13 +1,15 @@
 //! The table of topics.
 
-ghost use Rattle.std.specs.Prelude.{◌≡◌, ◌+◌, ◌^◌, ◌<◌, true, false, [], OnOk, OnErr, IfOk, option_copied, length, slice_get, Some};
+ghost use Rattle.nt_table.specs.declared.topic.Topic.{Topic};
+ghost use Rattle.std.specs.Prelude.{ℕ, ◌≡◌, ◌+◌, ◌^◌, ◌<◌, true, false, [], OnOk, OnErr, IfOk, option_copied, length, slice_get, Some};
 ghost use Rattle.std.specs.List.{find, list_any};
 ghost use Rattle.nt_topics.specs.Names.{is_special};
 ghost use Rattle.nt_table.specs.Topics.{Holds, is_named, if_counts, publish_cause, published, next_after, unpublish_cause, unpublished, update_cause, with_props, put_cause, with_put, dropped, restore_cause, restored};
 ghost use Rattle.nt_table.specs.Changes.{outcome_of, publish_changes, unpublish_changes, update_changes, put_changes, drop_changes, restore_changes};
 
-use crate::call::{close, publish, put, restore, set_props, unpublish};
-use crate::lookup::topic_of_name;
+use crate::index::Index;
+use crate::indexed::{close, publish, put, restore, set_props, topic_of_name, unpublish};
+use crate::lookup;
 use crate::topic::{Changes, Outcome, Pub, Saved, Topic};
 use nt_topics::{Props, TopicName, TypeName, Update};
 use nt_values::Value;
@@ -20,17 +22,22 @@ use std::marker::Model;
 pub struct Table {
     failed: bool,
     topics: Vec<Topic>,
+    index: Index,
     next: u32,
 }
 
 impl Model for Table {
+    ghost use Rattle.std.specs.Prelude.{◌≡◌, false};
     ghost use Rattle.nt_table.specs.Topics.{Holds};
+    ghost use Rattle.nt_table.specs.Index.{IsIndexed};
     ghost use Rattle.nt_topics.specs.contracts.properties.Props as props;
     ghost use Rattle.std.specs.Coded.{codes};
 
     ghost Value = { Holds };
 
     ghost coded = { Prim.hlevel (codes, props.the_row.coded) };
+
+    ghost invariant = { λ t. t.failed ≡ false → IsIndexed t.index t.topics.items t.next };
 
     ghost view = { λ t. record { failed = t.failed; topics = t.topics.items; next = t.next } };
 }
@@ -43,19 +50,21 @@ impl Table {
         Table {
             failed: false,
             topics: Vec::new(alloc),
+            index: Index::new(alloc),
             next: 1,
         }
     }
 
     /// Begins a saved topic, with the next id and no publisher. Its value has the time 0.
     ///
-    /// It is ignored with the first of `TopicsFull`, `IdsSpent` and `OtherType` that holds. It fails
-    /// for want of memory alone.
+    /// It is ignored with the first of `TopicsFull`, `IdsSpent` and `OtherType` that holds. It
+    /// fails for want of memory alone.
     pub fn restore(&mut self, alloc: Global, saved: Saved) -> Result<Outcome, AllocError>
         requires unnamed { list_any (is_named saved.name) self.old.topics ≡ false }
         requires plain { is_special saved.name ≡ false }
         ensures answer { IfOk result (λ o. o ≡ outcome_of
-            (restore_cause self.old.topics self.old.next saved) (restore_changes self.old.next saved)) }
+            (restore_cause self.old.topics self.old.next saved)
+            (restore_changes self.old.next saved)) }
         ensures topics { OnOk result (self.new.topics ≡ if_counts
             (restore_cause self.old.topics self.old.next saved)
             (restored self.old.topics self.old.next saved) self.old.topics) }
@@ -68,7 +77,13 @@ impl Table {
         if self.failed {
             return Err(AllocError);
         }
-        let outcome = restore(alloc, &mut self.topics, &mut self.next, saved);
+        let outcome = restore(
+            alloc,
+            &mut self.topics,
+            &mut self.index,
+            &mut self.next,
+            saved,
+        );
         self.failed = outcome.is_err();
         outcome
     }
@@ -76,9 +91,9 @@ impl Table {
     /// Publishes to the topic of this name, which keeps its type and properties, or begins it with
     /// the next id and these (NetworkTables 4.1, "Publish Request Message").
     ///
-    /// It is ignored with the first of `Special`, `UidInUse`, `PubsFull` and, where no topic of that
-    /// name lives, `PropsFull`, `TopicsFull` and `IdsSpent` that holds. It fails for want of memory
-    /// alone.
+    /// It is ignored with the first of `Special`, `UidInUse`, `PubsFull` and, where no topic of
+    /// that name lives, `PropsFull`, `TopicsFull` and `IdsSpent` that holds. It fails for want of
+    /// memory alone.
     pub fn publish(
         &mut self,
         alloc: Global,
@@ -110,6 +125,7 @@ impl Table {
         let outcome = publish(
             alloc,
             &mut self.topics,
+            &mut self.index,
             &mut self.next,
             name,
             props,
@@ -125,7 +141,8 @@ impl Table {
     /// It is ignored exactly with `NoSuchUid`. It fails for want of memory alone.
     pub fn unpublish(&mut self, alloc: Global, conn: u32, uid: i64) -> Result<Outcome, AllocError>
         ensures answer { IfOk result (λ o. o ≡ outcome_of
-            (unpublish_cause self.old.topics conn uid) (unpublish_changes self.old.topics conn uid)) }
+            (unpublish_cause self.old.topics conn uid)
+            (unpublish_changes self.old.topics conn uid)) }
         ensures topics { OnOk result (self.new.topics ≡ if_counts
             (unpublish_cause self.old.topics conn uid)
             (unpublished self.old.topics conn uid) self.old.topics) }
@@ -137,7 +154,7 @@ impl Table {
         if self.failed {
             return Err(AllocError);
         }
-        let outcome = unpublish(alloc, &mut self.topics, conn, uid);
+        let outcome = unpublish(alloc, &mut self.topics, &mut self.index, conn, uid);
         self.failed = outcome.is_err();
         outcome
     }
@@ -167,7 +184,7 @@ impl Table {
         if self.failed {
             return Err(AllocError);
         }
-        let outcome = set_props(alloc, &mut self.topics, name, update);
+        let outcome = set_props(alloc, &mut self.topics, &mut self.index, name, update);
         self.failed = outcome.is_err();
         outcome
     }
@@ -175,8 +192,8 @@ impl Table {
     /// Puts a value, with a time in microseconds, to the topic of the publisher (NetworkTables 4.1,
     /// "MessagePack Data").
     ///
-    /// It is ignored with the first of `NoSuchUid`, `OtherType` and `Older` that holds. It fails for
-    /// want of memory alone.
+    /// It is ignored with the first of `NoSuchUid`, `OtherType` and `Older` that holds. It fails
+    /// for want of memory alone.
     pub fn put(
         &mut self,
         alloc: Global,
@@ -201,7 +218,7 @@ impl Table {
             drop(value);
             return Err(AllocError);
         }
-        let outcome = put(alloc, &mut self.topics, conn, uid, time, value);
+        let outcome = put(alloc, &mut self.topics, &self.index, conn, uid, time, value);
         self.failed = outcome.is_err();
         outcome
     }
@@ -219,7 +236,7 @@ impl Table {
         if self.failed {
             return Err(AllocError);
         }
-        let changes = close(alloc, &mut self.topics, conn);
+        let changes = close(alloc, &mut self.topics, &mut self.index, conn);
         self.failed = changes.is_err();
         changes
     }
@@ -228,7 +245,10 @@ impl Table {
     pub fn topic(&self, name: &str) -> Option<&Topic>
         ensures { option_copied result ≡ find (is_named name.now) self.now.topics }
     {
-        topic_of_name(&self.topics, name)
+        if self.failed {
+            return lookup::topic_of_name(&self.topics, name);
+        }
+        topic_of_name(&self.topics, &self.index, name)
     }
 
     /// How many topics live.
@@ -238,10 +258,14 @@ impl Table {
         self.topics.len()
     }
 
-    /// The topic at this index, by rising id.
+    /// The topic at this index, by rising id. In a table that hasn't failed its id is below those
+    /// of the topics behind it, and below the next one.
     pub fn at(&self, i: usize) -> &Topic
         requires { i < length self.now.topics }
-        ensures { slice_get self.now.topics i ≡ Some result.now }
+        ensures topic { slice_get self.now.topics i ≡ Some result.now }
+        ensures rising { self.now.failed ≡ false → (j : ℕ) → (t : Topic) → i < j
+            → slice_get self.now.topics j ≡ Some t → result.now.id < t.id }
+        ensures below { self.now.failed ≡ false → result.now.id < self.now.next }
     {
         &self.topics[i]
     }

@@ -160,22 +160,162 @@ const EDGES: &[(Call, &str)] = &[
         "Props 1 /a;Ended 1 /a;",
     ),
     (Call::SetProps("/a", "{}"), "NoTopic"),
-    (Call::Publish(1, 1, "/a", "int", "{}"), "Started 3 /a int;"),
+    (
+        Call::Publish(1, 1, "/a", "int", r#"{"retained":true}"#),
+        "Started 3 /a int;",
+    ),
+    (Call::Unpublish(1, 1), ""),
+    (
+        Call::SetProps("/a", r#"{"retained":null}"#),
+        "Props 3 /a;Ended 3 /a;",
+    ),
+    (Call::Publish(1, 1, "/a", "int", "{}"), "Started 4 /a int;"),
     (Call::Drop(2), ""),
-    (Call::Drop(1), "Ended 2 /b;Ended 3 /a;"),
-    (Call::Publish(1, 1, "/b", "int", "{}"), "Started 4 /b int;"),
+    (Call::Drop(1), "Ended 2 /b;Ended 4 /a;"),
+    (Call::Publish(1, 1, "/b", "int", "{}"), "Started 5 /b int;"),
 ];
+
+/// After 16,384 publishers of connection 1 to one topic.
+const MOST_PUBLISHERS: &[(Call, &str)] = &[
+    (Call::Publish(1, 16_384, "/0", "int", "{}"), "PubsFull"),
+    (Call::Publish(2, 16_384, "/0", "int", "{}"), ""),
+    (Call::Unpublish(1, 16_383), ""),
+    (Call::Publish(1, 16_384, "/0", "int", "{}"), ""),
+    (Call::Publish(1, 16_385, "/0", "int", "{}"), "PubsFull"),
+    (Call::PutInt(1, 16_383, 0, 1), "NoSuchUid"),
+    (Call::PutInt(1, 16_384, 0, 1), "Changed 1 /0 0;"),
+    (Call::Drop(1), ""),
+    (Call::Drop(2), "Ended 1 /0;"),
+    (Call::Publish(3, 0, "/0", "int", "{}"), "Started 2 /0 int;"),
+];
+
+/// After 16,384 topics of connection 1.
+const MOST_TOPICS: &[(Call, &str)] = &[
+    (Call::Publish(2, 0, "/b", "int", "{}"), "TopicsFull"),
+    (Call::Publish(2, 0, "/16383", "int", "{}"), ""),
+    (Call::Unpublish(1, 16_383), ""),
+    (Call::Publish(2, 1, "/b", "int", "{}"), "TopicsFull"),
+    (Call::PutInt(2, 0, 0, 1), "Changed 16384 /16383 0;"),
+    (Call::Unpublish(2, 0), "Ended 16384 /16383;"),
+    (
+        Call::Publish(2, 1, "/b", "int", "{}"),
+        "Started 16385 /b int;",
+    ),
+    (Call::Publish(2, 2, "/c", "int", "{}"), "TopicsFull"),
+    (Call::PutInt(1, 16_382, 0, 1), "Changed 16383 /16382 0;"),
+    (Call::Drop(2), "Ended 16385 /b;"),
+];
+
+/// Makes the calls of a row one after another, and says what the first of them answered that
+/// answered anything else than is wanted.
+fn first_other(
+    alloc: Global,
+    table: &mut Table,
+    rows: &[(Call, &'static str)],
+) -> Result<String, Fail> {
+    for (call, wanted) in rows {
+        let answer = answer(alloc, table, call)?;
+        if answer.as_str() != *wanted {
+            return Ok(format!(in alloc; "{answer} in place of {wanted}")?);
+        }
+    }
+    Ok(String::new(alloc))
+}
+
+/// Publishes for connection 1 with each uid below this one, to as many topics or to one.
+fn publish_all(alloc: Global, table: &mut Table, uids: u32, topics: u32) -> Result<(), Fail> {
+    for uid in 0..uids {
+        let number = uid.min(topics);
+        let name = format!(in alloc; "/{number}")?;
+        let name = TopicName::of(alloc, name.as_str())?;
+        let typ = TypeName::of(alloc, "int")?;
+        table.publish(alloc, 1, i64::from(uid), name, typ, Props::empty(alloc))?;
+    }
+    Ok(())
+}
+
+/// Properties, or an update of them, whose text has this many bytes and eight.
+fn long_text(alloc: Global, count: u32) -> Result<String, AllocError> {
+    let mut text = String::new(alloc);
+    text.push_str("{\"a\":\"")?;
+    for _ in 0..count {
+        text.push_str("x")?;
+    }
+    text.push_str("\"}")?;
+    Ok(text)
+}
+
+/// What a publish of a topic with properties of this text answers, and an update by this text.
+fn long_answers(alloc: Global, count: u32) -> Result<String, Fail> {
+    let mut table = Table::new(alloc);
+    let text = long_text(alloc, count)?;
+    let (one, two) = (TopicName::of(alloc, "/a")?, TopicName::of(alloc, "/b")?);
+    let typ = TypeName::of(alloc, "int")?;
+    let props = props_of(alloc, text.as_str())?;
+    let mut line = outcome_line(alloc, &table.publish(alloc, 1, 1, one, typ, props)?)?;
+    let typ = TypeName::of(alloc, "int")?;
+    table.publish(alloc, 1, 2, two, typ, Props::empty(alloc))?;
+    let two = TopicName::of(alloc, "/b")?;
+    let update = update_of(alloc, text.as_str())?;
+    line.push_str(" ")?;
+    line.push_str(outcome_line(alloc, &table.set_props(alloc, &two, update)?)?.as_str())?;
+    Ok(line)
+}
 
 #[test]
 fn answers_each_call(rt: HostRuntime) -> Result<(), Fail> {
     let alloc = rt.alloc();
     for rows in [LIFE, EDGES] {
         let mut table = Table::new(alloc);
-        for (call, wanted) in rows {
-            let answer = answer(alloc, &mut table, call)?;
-            assert_eq!(rt; answer.as_str(), *wanted);
-        }
+        assert_eq!(rt; first_other(alloc, &mut table, rows)?.as_str(), "");
         assert_eq!(rt; table.len(), 1);
     }
+    Ok(())
+}
+
+#[test]
+fn refuses_a_publisher_past_the_most(rt: HostRuntime) -> Result<(), Fail> {
+    let alloc = rt.alloc();
+    let mut table = Table::new(alloc);
+    publish_all(alloc, &mut table, 16_384, 0)?;
+    assert_eq!(rt;
+        first_other(alloc, &mut table, MOST_PUBLISHERS)?.as_str(),
+        ""
+    );
+    Ok(())
+}
+
+#[test]
+fn refuses_a_topic_past_the_most(rt: HostRuntime) -> Result<(), Fail> {
+    let alloc = rt.alloc();
+    let mut table = Table::new(alloc);
+    publish_all(alloc, &mut table, 16_384, 16_384)?;
+    assert_eq!(rt; first_other(alloc, &mut table, MOST_TOPICS)?.as_str(), "");
+    Ok(())
+}
+
+#[test]
+fn refuses_properties_past_the_most(rt: HostRuntime) -> Result<(), Fail> {
+    let alloc = rt.alloc();
+    let answers = long_answers(alloc, 65_528)?;
+    assert_eq!(rt; answers.as_str(), "Started 1 /a int; Props 2 /b;");
+    let answers = long_answers(alloc, 65_529)?;
+    assert_eq!(rt; answers.as_str(), "PropsFull PropsFull");
+    Ok(())
+}
+
+#[test]
+fn takes_the_first_and_the_last_time(rt: HostRuntime) -> Result<(), Fail> {
+    let alloc = rt.alloc();
+    let mut table = Table::new(alloc);
+    publish_all(alloc, &mut table, 1, 1)?;
+    let mut line = String::new(alloc);
+    for time in [0, 9_223_372_036_854_775_807, 0, 9_223_372_036_854_775_807] {
+        let outcome = table.put(alloc, 1, 0, time, Value::Int(1))?;
+        line.push_str(outcome_line(alloc, &outcome)?.as_str())?;
+    }
+    let wanted =
+        "Changed 1 /0 0;Changed 1 /0 9223372036854775807;OlderChanged 1 /0 9223372036854775807;";
+    assert_eq!(rt; line.as_str(), wanted);
     Ok(())
 }

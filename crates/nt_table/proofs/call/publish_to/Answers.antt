@@ -1,4 +1,4 @@
-use Rattle.std.proofs.Common.{◌≡◌, ◌≤◌, Some, None, ◌∙◌, ap, rules}
+use Rattle.std.proofs.Common.{refl, sym, ◌≡◌, ◌≤◌, Some, None, ◌∙◌, rules}
 use Rattle.std.specs.List.{position}
 use Rattle.nt_table.specs.Topics.{is_named, last_id}
 use Rattle.nt_table.proofs.Positions.{first-position, position-None, any-first}
@@ -7,21 +7,19 @@ use Rattle.nt_table.proofs.call.publish_to.Goals as goal
 
 pub overflow_add-next : goal.overflow_add-next
 overflow_add-next c =
-    let at : None ≡ position (is_named c.args.name) c.deref.result.now =
-    c.in-None.ensures ∙ ap (λ n. position (is_named n) c.deref.result.now) c.as_str.ensures.text in
-    let none = position-None (is_named c.args.name) c.deref.result.now c.args.topics.now.items c.deref.ensures.value at in
+    let at : None ≡ position (is_named c.args.name) c.args.topics.now.items = sym c.in-None.is ∙ c.requires.found in
+    let none = position-None (is_named c.args.name) c.args.topics.now.items c.args.topics.now.items refl at in
     let within : c.args.next.now ≤ last_id =
     next-within c.args.topics.now.items c.args.next.now c.args.publisher.conn c.args.publisher.uid c.args.name c.args.props
-    c.requires none in
+    c.requires.counts none in
     search rules
 
 pub returns-in_ok-add_publisher-in-Some : goal.returns-in_ok-add_publisher-in-Some
 returns-in_ok-add_publisher-in-Some c =
-    let at : Some c.in-Some.i ≡ position (is_named c.args.name) c.deref.result.now =
-    c.in-Some.ensures ∙ ap (λ n. position (is_named n) c.deref.result.now) c.as_str.ensures.text in
+    let at : Some c.in-Some.i ≡ position (is_named c.args.name) c.args.topics.now.items = sym c.in-Some.is ∙ c.requires.found in
     let first =
-    first-position (is_named c.args.name) c.deref.result.now c.args.topics.now.items c.in-Some.i c.index_mut.result.now
-    c.deref.ensures.value at c.index_mut.ensures.value in
+    first-position (is_named c.args.name) c.args.topics.now.items c.args.topics.now.items c.in-Some.i c.index_mut.result.now
+    refl at c.index_mut.ensures.value in
     let any = any-first (is_named c.args.name) c.args.topics.now.items c.in-Some.i c.index_mut.result.now first in
     record {
       changes =
@@ -36,9 +34,8 @@ returns-in_ok-add_publisher-in-Some c =
 
 pub returns-in_ok-changes-in-None : goal.returns-in_ok-changes-in-None
 returns-in_ok-changes-in-None c =
-    let at : None ≡ position (is_named c.args.name) c.deref.result.now =
-    c.in-None.ensures ∙ ap (λ n. position (is_named n) c.deref.result.now) c.as_str.ensures.text in
-    let none = position-None (is_named c.args.name) c.deref.result.now c.args.topics.now.items c.deref.ensures.value at in
+    let at : None ≡ position (is_named c.args.name) c.args.topics.now.items = sym c.in-None.is ∙ c.requires.found in
+    let none = position-None (is_named c.args.name) c.args.topics.now.items c.args.topics.now.items refl at in
     record {
       changes =
           c.in_ok-changes-in-None.ensures.changes

@@ -1,5 +1,4 @@
-use Rattle.std.proofs.Common.{◌≡◌, Some, None, sym, ◌∙◌, ap, rules, w64}
-use Rattle.std.proofs.lemmas.Int.{to_z-of_z}
+use Rattle.std.proofs.Common.{refl, ◌≡◌, Some, None, sym, ◌∙◌, rules}
 use Rattle.std.specs.List.{position}
 use Rattle.nt_table.specs.declared.topic.Cause.TheVariants.{NoSuchUid}
 use Rattle.nt_table.specs.Topics.{has_publisher, put_cause, with_put}
@@ -10,50 +9,36 @@ use Rattle.nt_table.proofs.call.put.Goals as goal
 
 pub returns-in-None-clause-answer : goal.returns-in-None-clause-answer
 returns-in-None-clause-answer c =
-    let found : c.position_of_publisher.result ≡ position (has_publisher c.args.conn c.args.uid) c.deref.result.now =
-    c.position_of_publisher.ensures
-    ∙ ap (λ u. position (has_publisher c.args.conn u) c.deref.result.now) (to_z-of_z w64 c.args.uid c.ranges.uid) in
-    let at : None ≡ position (has_publisher c.args.conn c.args.uid) c.deref.result.now = sym c.in-None.is ∙ found in
+    let at : None ≡ position (has_publisher c.args.conn c.args.uid) c.args.topics.now.items = sym c.in-None.is ∙ c.requires in
     let none =
-    position-None (has_publisher c.args.conn c.args.uid) c.deref.result.now c.args.topics.now.items c.deref.ensures.value at in
+    position-None (has_publisher c.args.conn c.args.uid) c.args.topics.now.items c.args.topics.now.items refl at in
     ignored (put_cause c.args.topics.now.items c.args.conn c.args.uid c.args.time c.args.value) NoSuchUid
     (put_changes c.args.topics.now.items c.args.conn c.args.uid c.args.time c.args.value)
     (put-none c.args.topics.now.items c.args.conn c.args.uid c.args.time c.args.value none)
 
 pub returns-in-None-clause-topics : goal.returns-in-None-clause-topics
 returns-in-None-clause-topics c =
-    let found : c.position_of_publisher.result ≡ position (has_publisher c.args.conn c.args.uid) c.deref.result.now =
-    c.position_of_publisher.ensures
-    ∙ ap (λ u. position (has_publisher c.args.conn u) c.deref.result.now) (to_z-of_z w64 c.args.uid c.ranges.uid) in
-    let at : None ≡ position (has_publisher c.args.conn c.args.uid) c.deref.result.now = sym c.in-None.is ∙ found in
+    let at : None ≡ position (has_publisher c.args.conn c.args.uid) c.args.topics.now.items = sym c.in-None.is ∙ c.requires in
     let none =
-    position-None (has_publisher c.args.conn c.args.uid) c.deref.result.now c.args.topics.now.items c.deref.ensures.value at in
+    position-None (has_publisher c.args.conn c.args.uid) c.args.topics.now.items c.args.topics.now.items refl at in
     unchanged (put_cause c.args.topics.now.items c.args.conn c.args.uid c.args.time c.args.value) NoSuchUid
     (with_put c.args.topics.now.items c.args.conn c.args.uid c.args.time c.args.value) c.args.topics.now.items
     (put-none c.args.topics.now.items c.args.conn c.args.uid c.args.time c.args.value none)
 
 pub returns-in-Some-clause-answer : goal.returns-in-Some-clause-answer
 returns-in-Some-clause-answer c =
-    let found : c.position_of_publisher.result ≡ position (has_publisher c.args.conn c.args.uid) c.deref.result.now =
-    c.position_of_publisher.ensures
-    ∙ ap (λ u. position (has_publisher c.args.conn u) c.deref.result.now) (to_z-of_z w64 c.args.uid c.ranges.uid) in
-    let at : Some c.in-Some.i ≡ position (has_publisher c.args.conn c.args.uid) c.deref.result.now =
-    sym c.in-Some.is ∙ found in
+    let at : Some c.in-Some.i ≡ position (has_publisher c.args.conn c.args.uid) c.args.topics.now.items = sym c.in-Some.is ∙ c.requires in
     let first =
-    first-position (has_publisher c.args.conn c.args.uid) c.deref.result.now c.args.topics.now.items c.in-Some.i
-    c.index_mut.result.now c.deref.ensures.value at c.index_mut.ensures.value in
+    first-position (has_publisher c.args.conn c.args.uid) c.args.topics.now.items c.args.topics.now.items c.in-Some.i
+    c.index_mut.result.now refl at c.index_mut.ensures.value in
     put-answer c.args.topics.now.items c.args.conn c.args.uid c.args.time c.args.value c.in-Some.i c.index_mut.result.now
     first c.put_to.result (search rules)
 
 pub returns-in-Some-clause-topics : goal.returns-in-Some-clause-topics
 returns-in-Some-clause-topics c =
-    let found : c.position_of_publisher.result ≡ position (has_publisher c.args.conn c.args.uid) c.deref.result.now =
-    c.position_of_publisher.ensures
-    ∙ ap (λ u. position (has_publisher c.args.conn u) c.deref.result.now) (to_z-of_z w64 c.args.uid c.ranges.uid) in
-    let at : Some c.in-Some.i ≡ position (has_publisher c.args.conn c.args.uid) c.deref.result.now =
-    sym c.in-Some.is ∙ found in
+    let at : Some c.in-Some.i ≡ position (has_publisher c.args.conn c.args.uid) c.args.topics.now.items = sym c.in-Some.is ∙ c.requires in
     let first =
-    first-position (has_publisher c.args.conn c.args.uid) c.deref.result.now c.args.topics.now.items c.in-Some.i
-    c.index_mut.result.now c.deref.ensures.value at c.index_mut.ensures.value in
+    first-position (has_publisher c.args.conn c.args.uid) c.args.topics.now.items c.args.topics.now.items c.in-Some.i
+    c.index_mut.result.now refl at c.index_mut.ensures.value in
     put-topics c.args.topics.now.items c.args.conn c.args.uid c.args.time c.args.value c.in-Some.i c.index_mut.result.now
     first c.put_to.result c.put_to.new.topic (search rules)

@@ -1,4 +1,4 @@
-use Rattle.std.proofs.Common.{◌≡◌, true, false, Some, None, sym, ◌∙◌, ap}
+use Rattle.std.proofs.Common.{refl, ◌≡◌, true, false, Some, None, sym, ◌∙◌, ap}
 use Rattle.std.specs.List.{position}
 use Rattle.nt_table.specs.declared.topic.Cause.TheVariants.{NoTopic, PropsFull}
 use Rattle.nt_table.specs.Topics.{is_named, is_too_long, with_update, update_cause, with_props}
@@ -9,29 +9,26 @@ use Rattle.nt_table.proofs.call.set_props.Goals as goal
 
 pub returns-in-None-clause-answer : goal.returns-in-None-clause-answer
 returns-in-None-clause-answer c =
-    let at : None ≡ position (is_named c.args.name.now) c.deref.result.now =
-    c.in-None.ensures ∙ ap (λ n. position (is_named n) c.deref.result.now) c.as_str.ensures.text in
-    let none = position-None (is_named c.args.name.now) c.deref.result.now c.args.topics.now.items c.deref.ensures.value at in
+    let at : None ≡ position (is_named c.args.name.now) c.args.topics.now.items = sym c.in-None.is ∙ c.requires in
+    let none = position-None (is_named c.args.name.now) c.args.topics.now.items c.args.topics.now.items refl at in
     ignored (update_cause c.args.topics.now.items c.args.name.now c.args.update) NoTopic
     (update_changes c.args.topics.now.items c.args.name.now c.args.update)
     (update-none c.args.topics.now.items c.args.name.now c.args.update none)
 
 pub returns-in-None-clause-topics : goal.returns-in-None-clause-topics
 returns-in-None-clause-topics c =
-    let at : None ≡ position (is_named c.args.name.now) c.deref.result.now =
-    c.in-None.ensures ∙ ap (λ n. position (is_named n) c.deref.result.now) c.as_str.ensures.text in
-    let none = position-None (is_named c.args.name.now) c.deref.result.now c.args.topics.now.items c.deref.ensures.value at in
+    let at : None ≡ position (is_named c.args.name.now) c.args.topics.now.items = sym c.in-None.is ∙ c.requires in
+    let none = position-None (is_named c.args.name.now) c.args.topics.now.items c.args.topics.now.items refl at in
     unchanged (update_cause c.args.topics.now.items c.args.name.now c.args.update) NoTopic
     (with_props c.args.topics.now.items c.args.name.now c.args.update) c.args.topics.now.items
     (update-none c.args.topics.now.items c.args.name.now c.args.update none)
 
 pub returns-then-is_too_long-clause-answer : goal.returns-then-is_too_long-clause-answer
 returns-then-is_too_long-clause-answer c =
-    let at : Some c.in-Some.i ≡ position (is_named c.args.name.now) c.deref.result.now =
-    c.in-Some.ensures ∙ ap (λ n. position (is_named n) c.deref.result.now) c.as_str.ensures.text in
+    let at : Some c.in-Some.i ≡ position (is_named c.args.name.now) c.args.topics.now.items = sym c.in-Some.is ∙ c.requires in
     let first =
-    first-position (is_named c.args.name.now) c.deref.result.now c.args.topics.now.items c.in-Some.i c.index.result.now
-    c.deref.ensures.value at c.index.ensures in
+    first-position (is_named c.args.name.now) c.args.topics.now.items c.args.topics.now.items c.in-Some.i c.index.result.now
+    refl at c.index.ensures in
     let long : is_too_long (with_update c.args.update c.index.result.now).props ≡ true =
     ap is_too_long (sym c.in_ok-props-in-Some.ensures.updated) ∙ sym c.is_too_long.ensures ∙ c.if-is_too_long.true in
     ignored (update_cause c.args.topics.now.items c.args.name.now c.args.update) PropsFull
@@ -40,11 +37,10 @@ returns-then-is_too_long-clause-answer c =
 
 pub returns-then-is_too_long-clause-topics : goal.returns-then-is_too_long-clause-topics
 returns-then-is_too_long-clause-topics c =
-    let at : Some c.in-Some.i ≡ position (is_named c.args.name.now) c.deref.result.now =
-    c.in-Some.ensures ∙ ap (λ n. position (is_named n) c.deref.result.now) c.as_str.ensures.text in
+    let at : Some c.in-Some.i ≡ position (is_named c.args.name.now) c.args.topics.now.items = sym c.in-Some.is ∙ c.requires in
     let first =
-    first-position (is_named c.args.name.now) c.deref.result.now c.args.topics.now.items c.in-Some.i c.index.result.now
-    c.deref.ensures.value at c.index.ensures in
+    first-position (is_named c.args.name.now) c.args.topics.now.items c.args.topics.now.items c.in-Some.i c.index.result.now
+    refl at c.index.ensures in
     let long : is_too_long (with_update c.args.update c.index.result.now).props ≡ true =
     ap is_too_long (sym c.in_ok-props-in-Some.ensures.updated) ∙ sym c.is_too_long.ensures ∙ c.if-is_too_long.true in
     unchanged (update_cause c.args.topics.now.items c.args.name.now c.args.update) PropsFull
@@ -53,14 +49,13 @@ returns-then-is_too_long-clause-topics c =
 
 pub returns-in_ok-changes-in-Some-clause-answer : goal.returns-in_ok-changes-in-Some-clause-answer
 returns-in_ok-changes-in-Some-clause-answer c =
-    let at : Some c.in-Some.i ≡ position (is_named c.args.name.now) c.deref.result.now =
-    c.in-Some.ensures ∙ ap (λ n. position (is_named n) c.deref.result.now) c.as_str.ensures.text in
+    let at : Some c.in-Some.i ≡ position (is_named c.args.name.now) c.args.topics.now.items = sym c.in-Some.is ∙ c.requires in
     let first =
-    first-position (is_named c.args.name.now) c.deref.result.now c.args.topics.now.items c.in-Some.i c.index.result.now
-    c.deref.ensures.value at c.index.ensures in
+    first-position (is_named c.args.name.now) c.args.topics.now.items c.args.topics.now.items c.in-Some.i c.index.result.now
+    refl at c.index.ensures in
     let here =
-    first-position (is_named c.args.name.now) c.deref.result.now c.args.topics.now.items c.in-Some.i
-    c.index_mut.result.now c.deref.ensures.value at c.index_mut.ensures.value in
+    first-position (is_named c.args.name.now) c.args.topics.now.items c.args.topics.now.items c.in-Some.i
+    c.index_mut.result.now refl at c.index_mut.ensures.value in
     let short : is_too_long (with_update c.args.update c.index.result.now).props ≡ false =
     ap is_too_long (sym c.in_ok-props-in-Some.ensures.updated) ∙ sym c.is_too_long.ensures ∙ c.if-is_too_long.false in
     done (update_cause c.args.topics.now.items c.args.name.now c.args.update) c.in_ok-changes-in-Some.changes
@@ -71,14 +66,13 @@ returns-in_ok-changes-in-Some-clause-answer c =
 
 pub returns-in_ok-changes-in-Some-clause-topics : goal.returns-in_ok-changes-in-Some-clause-topics
 returns-in_ok-changes-in-Some-clause-topics c =
-    let at : Some c.in-Some.i ≡ position (is_named c.args.name.now) c.deref.result.now =
-    c.in-Some.ensures ∙ ap (λ n. position (is_named n) c.deref.result.now) c.as_str.ensures.text in
+    let at : Some c.in-Some.i ≡ position (is_named c.args.name.now) c.args.topics.now.items = sym c.in-Some.is ∙ c.requires in
     let first =
-    first-position (is_named c.args.name.now) c.deref.result.now c.args.topics.now.items c.in-Some.i c.index.result.now
-    c.deref.ensures.value at c.index.ensures in
+    first-position (is_named c.args.name.now) c.args.topics.now.items c.args.topics.now.items c.in-Some.i c.index.result.now
+    refl at c.index.ensures in
     let here =
-    first-position (is_named c.args.name.now) c.deref.result.now c.args.topics.now.items c.in-Some.i
-    c.index_mut.result.now c.deref.ensures.value at c.index_mut.ensures.value in
+    first-position (is_named c.args.name.now) c.args.topics.now.items c.args.topics.now.items c.in-Some.i
+    c.index_mut.result.now refl at c.index_mut.ensures.value in
     let short : is_too_long (with_update c.args.update c.index.result.now).props ≡ false =
     ap is_too_long (sym c.in_ok-props-in-Some.ensures.updated) ∙ sym c.is_too_long.ensures ∙ c.if-is_too_long.false in
     counted (update_cause c.args.topics.now.items c.args.name.now c.args.update) c.settle.new.topics.items

@@ -1,5 +1,4 @@
-use Rattle.std.proofs.Common.{◌≡◌, Some, None, sym, ◌∙◌, ap, rules, w64}
-use Rattle.std.proofs.lemmas.Int.{to_z-of_z}
+use Rattle.std.proofs.Common.{refl, ◌≡◌, Some, None, sym, ◌∙◌, ap, rules}
 use Rattle.std.specs.List.{position}
 use Rattle.nt_table.specs.declared.topic.Cause.TheVariants.{NoSuchUid}
 use Rattle.nt_table.specs.Topics.{has_publisher, without_publisher, unpublish_cause, unpublished}
@@ -10,38 +9,28 @@ use Rattle.nt_table.proofs.call.unpublish.Goals as goal
 
 pub returns-in-None-clause-answer : goal.returns-in-None-clause-answer
 returns-in-None-clause-answer c =
-    let found : c.position_of_publisher.result ≡ position (has_publisher c.args.conn c.args.uid) c.deref.result.now =
-    c.position_of_publisher.ensures
-    ∙ ap (λ u. position (has_publisher c.args.conn u) c.deref.result.now) (to_z-of_z w64 c.args.uid c.ranges.uid) in
-    let at : None ≡ position (has_publisher c.args.conn c.args.uid) c.deref.result.now = sym c.in-None.is ∙ found in
+    let at : None ≡ position (has_publisher c.args.conn c.args.uid) c.args.topics.now.items = sym c.in-None.is ∙ c.requires in
     let none =
-    position-None (has_publisher c.args.conn c.args.uid) c.deref.result.now c.args.topics.now.items c.deref.ensures.value at in
+    position-None (has_publisher c.args.conn c.args.uid) c.args.topics.now.items c.args.topics.now.items refl at in
     ignored (unpublish_cause c.args.topics.now.items c.args.conn c.args.uid) NoSuchUid
     (unpublish_changes c.args.topics.now.items c.args.conn c.args.uid)
     (unpublish-none c.args.topics.now.items c.args.conn c.args.uid none)
 
 pub returns-in-None-clause-topics : goal.returns-in-None-clause-topics
 returns-in-None-clause-topics c =
-    let found : c.position_of_publisher.result ≡ position (has_publisher c.args.conn c.args.uid) c.deref.result.now =
-    c.position_of_publisher.ensures
-    ∙ ap (λ u. position (has_publisher c.args.conn u) c.deref.result.now) (to_z-of_z w64 c.args.uid c.ranges.uid) in
-    let at : None ≡ position (has_publisher c.args.conn c.args.uid) c.deref.result.now = sym c.in-None.is ∙ found in
+    let at : None ≡ position (has_publisher c.args.conn c.args.uid) c.args.topics.now.items = sym c.in-None.is ∙ c.requires in
     let none =
-    position-None (has_publisher c.args.conn c.args.uid) c.deref.result.now c.args.topics.now.items c.deref.ensures.value at in
+    position-None (has_publisher c.args.conn c.args.uid) c.args.topics.now.items c.args.topics.now.items refl at in
     unchanged (unpublish_cause c.args.topics.now.items c.args.conn c.args.uid) NoSuchUid
     (unpublished c.args.topics.now.items c.args.conn c.args.uid) c.args.topics.now.items
     (unpublish-none c.args.topics.now.items c.args.conn c.args.uid none)
 
 pub returns-in_ok-changes-in-Some-clause-answer : goal.returns-in_ok-changes-in-Some-clause-answer
 returns-in_ok-changes-in-Some-clause-answer c =
-    let found : c.position_of_publisher.result ≡ position (has_publisher c.args.conn c.args.uid) c.deref.result.now =
-    c.position_of_publisher.ensures
-    ∙ ap (λ u. position (has_publisher c.args.conn u) c.deref.result.now) (to_z-of_z w64 c.args.uid c.ranges.uid) in
-    let at : Some c.in-Some.i ≡ position (has_publisher c.args.conn c.args.uid) c.deref.result.now =
-    sym c.in-Some.is ∙ found in
+    let at : Some c.in-Some.i ≡ position (has_publisher c.args.conn c.args.uid) c.args.topics.now.items = sym c.in-Some.is ∙ c.requires in
     let first =
-    first-position (has_publisher c.args.conn c.args.uid) c.deref.result.now c.args.topics.now.items c.in-Some.i
-    c.index_mut.result.now c.deref.ensures.value at c.index_mut.ensures.value in
+    first-position (has_publisher c.args.conn c.args.uid) c.args.topics.now.items c.args.topics.now.items c.in-Some.i
+    c.index_mut.result.now refl at c.index_mut.ensures.value in
     let gone : c.drop_publisher.new.topic ≡ without_publisher c.args.conn c.args.uid c.index_mut.result.now = search rules in
     let now : c.index.result.now ≡ c.drop_publisher.new.topic =
     written c.args.topics.now.items c.in-Some.i c.drop_publisher.new.topic c.index.result.now first.within c.index.ensures in
@@ -53,14 +42,10 @@ returns-in_ok-changes-in-Some-clause-answer c =
 
 pub returns-in_ok-changes-in-Some-clause-topics : goal.returns-in_ok-changes-in-Some-clause-topics
 returns-in_ok-changes-in-Some-clause-topics c =
-    let found : c.position_of_publisher.result ≡ position (has_publisher c.args.conn c.args.uid) c.deref.result.now =
-    c.position_of_publisher.ensures
-    ∙ ap (λ u. position (has_publisher c.args.conn u) c.deref.result.now) (to_z-of_z w64 c.args.uid c.ranges.uid) in
-    let at : Some c.in-Some.i ≡ position (has_publisher c.args.conn c.args.uid) c.deref.result.now =
-    sym c.in-Some.is ∙ found in
+    let at : Some c.in-Some.i ≡ position (has_publisher c.args.conn c.args.uid) c.args.topics.now.items = sym c.in-Some.is ∙ c.requires in
     let first =
-    first-position (has_publisher c.args.conn c.args.uid) c.deref.result.now c.args.topics.now.items c.in-Some.i
-    c.index_mut.result.now c.deref.ensures.value at c.index_mut.ensures.value in
+    first-position (has_publisher c.args.conn c.args.uid) c.args.topics.now.items c.args.topics.now.items c.in-Some.i
+    c.index_mut.result.now refl at c.index_mut.ensures.value in
     let gone : c.drop_publisher.new.topic ≡ without_publisher c.args.conn c.args.uid c.index_mut.result.now = search rules in
     counted (unpublish_cause c.args.topics.now.items c.args.conn c.args.uid) c.settle.new.topics.items
     (unpublished c.args.topics.now.items c.args.conn c.args.uid) c.args.topics.now.items
