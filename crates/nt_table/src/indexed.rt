@@ -3,8 +3,8 @@
 ghost use Rattle.std.specs.Prelude.{◌≡◌, ◌+◌, ℕ, List, false, option_copied, IfOk, OnOk};
 ghost use Rattle.std.specs.List.{list_any, find, position};
 ghost use Rattle.serde_json.specs.Data.{Data};
-ghost use Rattle.nt_table.specs.Index.{id_named, id_of, count_of, is_at, IsRising, IsIndexed, StaysIndexed};
-ghost use Rattle.nt_table.specs.Topics.{is_named, has_publisher, publishers_of, if_counts, publish_cause, published, next_after, unpublish_cause, unpublished, update_cause, with_props, put_cause, with_put, dropped, restore_cause, restored};
+ghost use Rattle.nt_table.specs.Index.{id_named, id_of, is_at, IsRising, IsIndexed, StaysIndexed, AreSaid};
+ghost use Rattle.nt_table.specs.Topics.{is_named, has_publisher, if_counts, publish_cause, published, next_after, unpublish_cause, unpublished, update_cause, with_props, put_cause, with_put, dropped, restore_cause, restored};
 ghost use Rattle.nt_table.specs.Changes.{outcome_of, publish_changes, unpublish_changes, update_changes, put_changes, drop_changes, restore_changes};
 
 use crate::call;
@@ -223,33 +223,17 @@ pub fn close(
     conn: u32,
 ) -> Result<Changes, AllocError>
     requires rising { IsRising 0 topics.old.items }
-    requires indexed { count_of index.old conn ≡ publishers_of conn topics.old.items }
+    requires indexed { AreSaid (id_of index.old conn) conn topics.old.items }
     ensures changes { IfOk result (λ changes. changes ≡ drop_changes topics.old.items conn) }
     ensures topics { OnOk result (topics.new.items ≡ dropped topics.old.items conn) }
     ensures indexed { OnOk result
         (StaysIndexed index.old topics.old.items index.new topics.new.items) }
 {
-    let changes = close_topics(alloc, topics, index, conn)?;
+    let ids = index.ids_of_conn(alloc, conn)?;
+    let changes = call::close(alloc, topics, ids.as_slice(), conn)?;
     index.forget_conn(conn);
     forget_ended(topics, index, changes.as_slice());
     Ok(changes)
-}
-
-/// Takes the publishers out of the topics. A connection that has none touches no topic.
-fn close_topics(
-    alloc: Global,
-    topics: &mut Vec<Topic>,
-    index: &Index,
-    conn: u32,
-) -> Result<Changes, AllocError>
-    requires { count_of index.now conn ≡ publishers_of conn topics.old.items }
-    ensures changes { IfOk result (λ changes. changes ≡ drop_changes topics.old.items conn) }
-    ensures topics { OnOk result (topics.new.items ≡ dropped topics.old.items conn) }
-{
-    if index.count_of(conn) == 0 {
-        return Ok(Changes::empty(alloc));
-    }
-    call::close(alloc, topics, conn)
 }
 
 /// Begins a saved topic with the next id.
