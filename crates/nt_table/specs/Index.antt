@@ -85,7 +85,8 @@ left_by conn t = if outlives conn t then Some (without_conn conn t) else None
 -- a topic has those of the connection's publishers that are said to be there, and no others of it
 abbrev pub AreSaid : (ℤ → Option ℕ) → ℕ → List Topic → Type 0
 AreSaid ids conn [] = Unit {0}
-AreSaid ids conn (t ∷ topics) = ((uid : ℤ) → has_publisher conn uid t ≡ is_at (ids uid) t) × AreSaid ids conn topics
+AreSaid ids conn (t ∷ topics) =
+    ((uid : ℤ) → has_publisher conn uid t ≡ is_at (ids uid) t) × AreSaid ids conn topics
 
 -- each topic to which the connection publishes has one of these ids
 abbrev pub AreAmong : List ℕ → ℕ → List Topic → Type 0

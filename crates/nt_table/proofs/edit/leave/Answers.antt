@@ -14,12 +14,14 @@ returns-then-outlives c =
     ∙ sym c.index.ensures in
     let left : c.drop_conn.new.topic ≡ without_conn c.args.conn c.index.result.now =
     c.drop_conn.ensures ∙ ap (without_conn c.args.conn) same in
-    set-change (left_by c.args.conn) c.args.topics.now.items c.args.i c.index.result.now c.drop_conn.new.topic c.index.ensures
+    set-change (left_by c.args.conn) c.args.topics.now.items c.args.i c.index.result.now c.drop_conn.new.topic
+    c.index.ensures
     (ap (λ b. cond b (Some (without_conn c.args.conn c.index.result.now)) None) on ∙ ap Some (sym left))
 
 pub returns-else-outlives : goal.returns-else-outlives
 returns-else-outlives c =
     let over : outlives c.args.conn c.index.result.now ≡ false = search rules in
     c.remove_at.ensures
-    ∙ remove-change (left_by c.args.conn) c.args.topics.now.items c.args.i c.index.result.now (omega arith) c.index.ensures
+    ∙ remove-change (left_by c.args.conn) c.args.topics.now.items c.args.i c.index.result.now (omega arith)
+    c.index.ensures
     (ap (λ b. cond b (Some (without_conn c.args.conn c.index.result.now)) None) over)
