@@ -9,8 +9,8 @@ ghost use Rattle.nt_topics.specs.Properties.{updated};
 ghost use Rattle.nt_table.specs.Changes.{outcome_of, told_by, update_change, publish_changes, unpublish_changes, update_changes, put_changes, drop_changes, restored_value, restore_changes};
 
 use crate::edit::{
-    add_publisher, changed, drop_publisher, end_of, ended, leave, one, put_to, settle, started,
-    tell_end, told_name,
+    add_publisher, changed, drop_publisher, end_of, ended, ends_of_conn, leave, leave_everywhere,
+    one, put_to, settle, started, tell_end, told_name,
 };
 use crate::lookup::{is_too_long, lives_on, position_at};
 use crate::topic::{Cause, Change, Changes, Outcome, Pub, Pubs, Saved, Timed, Topic};
@@ -234,6 +234,21 @@ pub fn close(
     for id in ids {
         leave_topic(alloc, topics, *id, conn, &mut changes)?;
     }
+    Ok(changes)
+}
+
+/// Takes the connection's publishers out of all topics, and the topics that end with them, in one
+/// walk.
+pub fn close_in_one_walk(
+    alloc: Global,
+    topics: &mut Vec<Topic>,
+    conn: u32,
+) -> Result<Changes, AllocError>
+    ensures changes { IfOk result (λ changes. changes ≡ drop_changes topics.old.items conn) }
+    ensures topics { OnOk result (topics.new.items ≡ dropped topics.old.items conn) }
+{
+    let changes = ends_of_conn(alloc, topics, conn)?;
+    leave_everywhere(alloc, topics, conn);
     Ok(changes)
 }
 

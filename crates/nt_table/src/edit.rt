@@ -1,7 +1,7 @@
 //! Changing topics, and telling the changes.
 
-ghost use Rattle.std.specs.Prelude.{◌≡◌, ◌<◌, vec_len, remove, filter, not, pos, None, [], ◌∷◌, ◌++◌, IfOk, OnOk};
-ghost use Rattle.nt_table.specs.Topics.{change_at, is_publisher, is_of, left_of, if_counts, put_cause_to, with_value, with_publisher, without_publisher, without_conn, new_topic};
+ghost use Rattle.std.specs.Prelude.{◌≡◌, ◌<◌, vec_len, remove, map, filter, not, pos, None, [], ◌∷◌, ◌++◌, IfOk, OnOk};
+ghost use Rattle.nt_table.specs.Topics.{change_at, is_publisher, is_of, left_of, if_counts, put_cause_to, with_value, with_publisher, without_publisher, without_conn, new_topic, outlives, dropped};
 ghost use Rattle.nt_table.specs.Index.{left_by};
 ghost use Rattle.nt_table.specs.Changes.{outcome_of, ended, end_of, put_change, drop_changes};
 
@@ -210,5 +210,40 @@ pub fn leave(alloc: Global, topics: &mut Vec<Topic>, i: usize, conn: u32)
         drop_conn(alloc, &mut topics[i], conn);
     } else {
         remove_at(topics, i);
+    }
+}
+
+/// The ends that the end of a connection makes, by rising id.
+pub fn ends_of_conn(alloc: Global, topics: &[Topic], conn: u32) -> Result<Changes, AllocError>
+    ensures { IfOk result (λ changes. changes ≡ drop_changes topics.now conn) }
+{
+    let mut changes = Changes::empty(alloc);
+    for topic in topics {
+        if !outlives(topic, conn) {
+            changes.push(ended(alloc, topic)?)?;
+        }
+    }
+    Ok(changes)
+}
+
+/// Takes the connection's publishers out of all topics, and the topics that end with them.
+pub fn leave_everywhere(alloc: Global, topics: &mut Vec<Topic>, conn: u32)
+    ensures { topics.new.items ≡ dropped topics.old.items conn }
+{
+    keep_outliving(topics, conn);
+    leave_all(alloc, topics, conn);
+}
+
+fn keep_outliving(topics: &mut Vec<Topic>, conn: u32)
+    ensures { topics.new.items ≡ filter (outlives conn) topics.old.items }
+{
+    topics.retain(|t| outlives(t, conn));
+}
+
+fn leave_all(alloc: Global, topics: &mut [Topic], conn: u32)
+    ensures { topics.new ≡ map (without_conn conn) topics.old }
+{
+    for topic in topics.iter_mut() {
+        drop_conn(alloc, topic, conn);
     }
 }

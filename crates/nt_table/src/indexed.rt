@@ -16,6 +16,10 @@ use nt_topics::{Props, TopicName, Update};
 use nt_values::Value;
 use std::alloc::{AllocError, Global};
 
+/// As many topics are taken out one by one. Each moves those behind it, so that for more of them
+/// one walk over all is cheaper.
+const FEW_TOPICS: usize = 64;
+
 /// The position of the topic of this name.
 fn position_of_name(topics: &[Topic], index: &Index, name: &str) -> Option<usize>
     requires rising { IsRising 0 topics.now }
@@ -229,11 +233,29 @@ pub fn close(
     ensures indexed { OnOk result
         (StaysIndexed index.old topics.old.items index.new topics.new.items) }
 {
-    let ids = index.ids_of_conn(alloc, conn)?;
-    let changes = call::close(alloc, topics, ids.as_slice(), conn)?;
+    let changes = close_topics(alloc, topics, index, conn)?;
     index.forget_conn(conn);
     forget_ended(topics, index, changes.as_slice());
     Ok(changes)
+}
+
+/// Takes the publishers out of the topics: where these are few, out of each alone.
+fn close_topics(
+    alloc: Global,
+    topics: &mut Vec<Topic>,
+    index: &Index,
+    conn: u32,
+) -> Result<Changes, AllocError>
+    requires rising { IsRising 0 topics.old.items }
+    requires indexed { AreSaid (id_of index.now conn) conn topics.old.items }
+    ensures changes { IfOk result (λ changes. changes ≡ drop_changes topics.old.items conn) }
+    ensures topics { OnOk result (topics.new.items ≡ dropped topics.old.items conn) }
+{
+    let ids = index.ids_of_conn(alloc, conn)?;
+    if ids.len() > FEW_TOPICS {
+        return call::close_in_one_walk(alloc, topics, conn);
+    }
+    call::close(alloc, topics, ids.as_slice(), conn)
 }
 
 /// Begins a saved topic with the next id.
