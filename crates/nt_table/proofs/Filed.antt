@@ -380,7 +380,7 @@ module _ (names names-2 : List ℕ → Option ℕ) (name : List ℕ) (o : Option
 -- ---- a connection with no publishers
 
 module _ (conn : ℕ) where
-  none-filtered : (ps : List Pub) → number (is_of conn) ps ≡ 0 → filter (λ p. not (is_of conn p)) ps ≡ ps
+  pub none-filtered : (ps : List Pub) → number (is_of conn) ps ≡ 0 → filter (λ p. not (is_of conn p)) ps ≡ ps
   none-filtered [] h = refl
   none-filtered (p ∷ ps) h = by (λ k. none-filtered ps k) (is_of conn p) h
     where

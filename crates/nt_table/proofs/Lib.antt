@@ -3,5 +3,6 @@ pub mod Calls
 pub mod Puts
 pub mod Numbers
 pub mod Filed
+pub mod Leaving
 pub mod Steps
 pub mod Search

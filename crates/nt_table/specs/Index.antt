@@ -1,12 +1,13 @@
 -- What an index of topics says, and when it is right.
-use Rattle.std.specs.Prelude.{◌≡◌, ◌+◌, ◌<◌, ◌≤◌, ℕ, ℤ, Bool, false, List, [], ◌∷◌, Option, Some, None, ◌==◌, nat_eq, if◌then◌else◌}
+use Rattle.std.specs.Prelude.{◌≡◌, ◌+◌, ◌<◌, ◌≤◌, ℕ, ℤ, Bool, true, false, List, [], ◌∷◌, Option, Some, None, ◌==◌, nat_eq, if◌then◌else◌}
 use Rattle.std.specs.Ordering.{int_eq}
 use Rattle.std.specs.Option.{is_some}
+use Rattle.std.specs.List.{Contains}
 use Rattle.std.specs.HashMap.{HashMap, get, get_by_text, hash_map_len}
 use Rattle.nt_table.specs.declared.index.Index.{Index}
 use Rattle.nt_table.specs.declared.topic.Topic.{Topic}
 use Rattle.nt_table.specs.declared.topic.Pub.{Pub}
-use Rattle.nt_table.specs.Topics.{is_publisher, is_named, publishers_of}
+use Rattle.nt_table.specs.Topics.{is_publisher, is_named, has_publisher, has_conn, publishers_of, without_conn, outlives}
 
 abbrev pub one : Bool → ℕ
 one b = if b then 1 else 0
@@ -74,3 +75,20 @@ pub record IsIndexed (index : Index) (topics : List Topic) (next : ℕ) : Type 0
 -- what is right stays right
 abbrev pub StaysIndexed : Index → List Topic → Index → List Topic → Type 0
 StaysIndexed index topics index-2 topics-2 = (next : ℕ) → IsIndexed index topics next → IsIndexed index-2 topics-2 next
+
+-- ---- the end of a connection
+
+-- what it leaves of a topic
+abbrev pub left_by : ℕ → Topic → Option Topic
+left_by conn t = if outlives conn t then Some (without_conn conn t) else None
+
+-- a topic has those of the connection's publishers that are said to be there, and no others of it
+abbrev pub AreSaid : (ℤ → Option ℕ) → ℕ → List Topic → Type 0
+AreSaid ids conn [] = Unit {0}
+AreSaid ids conn (t ∷ topics) =
+    ((uid : ℤ) → has_publisher conn uid t ≡ is_at (ids uid) t) × AreSaid ids conn topics
+
+-- each topic to which the connection publishes has one of these ids
+abbrev pub AreAmong : List ℕ → ℕ → List Topic → Type 0
+AreAmong ids conn [] = Unit {0}
+AreAmong ids conn (t ∷ topics) = (has_conn conn t ≡ true → Contains ids t.id) × AreAmong ids conn topics

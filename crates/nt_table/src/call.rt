@@ -1,16 +1,18 @@
 //! The calls on a list of topics.
 
-ghost use Rattle.std.specs.Prelude.{◌≡◌, ◌+◌, ◌<◌, vec_len, pos, option_map, None, [], ◌∷◌, ◌++◌, IfOk, OnOk};
-ghost use Rattle.std.specs.List.{position};
-ghost use Rattle.nt_table.specs.Topics.{is_named, has_publisher, change_at, if_counts, left_of, with_update, new_topic, publish_cause, published, next_after, unpublish_cause, unpublished, update_cause, with_props, put_cause, with_put, dropped, restore_cause, restored, restored_topic, at_zero};
+ghost use Rattle.std.specs.Prelude.{◌≡◌, ◌+◌, ◌<◌, vec_len, pos, option_map, None, Some, [], ◌∷◌, ◌++◌, IfOk, OnOk};
+ghost use Rattle.std.specs.List.{position, find};
+ghost use Rattle.std.specs.List.Sorted.{IsStrictlyIncreasing};
+ghost use Rattle.nt_table.specs.Index.{is_at, left_by, IsRising, AreAmong};
+ghost use Rattle.nt_table.specs.Topics.{is_named, has_publisher, change_at, change_first, if_counts, left_of, with_update, new_topic, publish_cause, published, next_after, unpublish_cause, unpublished, update_cause, with_props, put_cause, with_put, dropped, restore_cause, restored, restored_topic, at_zero};
 ghost use Rattle.nt_topics.specs.Properties.{updated};
-ghost use Rattle.nt_table.specs.Changes.{outcome_of, update_change, publish_changes, unpublish_changes, update_changes, put_changes, drop_changes, restored_value, restore_changes};
+ghost use Rattle.nt_table.specs.Changes.{outcome_of, told_by, update_change, publish_changes, unpublish_changes, update_changes, put_changes, drop_changes, restored_value, restore_changes};
 
 use crate::edit::{
-    add_publisher, changed, drop_publisher, end_of, ended, ends_of_conn, leave, one, put_to,
-    settle, started, told_name,
+    add_publisher, changed, drop_publisher, end_of, ended, ends_of_conn, leave, leave_everywhere,
+    one, put_to, settle, started, tell_end, told_name,
 };
-use crate::lookup::{is_too_long, lives_on};
+use crate::lookup::{is_too_long, lives_on, position_at};
 use crate::topic::{Cause, Change, Changes, Outcome, Pub, Pubs, Saved, Timed, Topic};
 use nt_topics::{Props, TopicName, TypeName, Update};
 use nt_values::Value;
@@ -189,13 +191,64 @@ pub fn put(
     }
 }
 
-/// Takes the connection's publishers out, and the topics that end with them.
-pub fn close(alloc: Global, topics: &mut Vec<Topic>, conn: u32) -> Result<Changes, AllocError>
+/// Takes the connection's publishers out of the topic of this id, where it lives, and the topic
+/// where it ends with them, and tells the end.
+fn leave_topic(
+    alloc: Global,
+    topics: &mut Vec<Topic>,
+    id: u32,
+    conn: u32,
+    changes: &mut Changes,
+) -> Result<(), AllocError>
+    requires { IsRising 0 topics.old.items }
+    ensures changes { OnOk result (changes.new ≡ changes.old
+        ++ told_by (λ t. drop_changes (t ∷ []) conn) (find (is_at (Some id)) topics.old.items)) }
+    ensures topics { OnOk result (topics.new.items
+        ≡ change_first (is_at (Some id)) (left_by conn) topics.old.items) }
+{
+    match position_at(topics, Some(id)) {
+        Some(i) => {
+            tell_end(alloc, &topics[i], conn, changes)?;
+            leave(alloc, topics, i, conn);
+            Ok(())
+        }
+        None => Ok(()),
+    }
+}
+
+/// Takes the connection's publishers out of the topics of these ids, which are all to which it
+/// publishes, and the topics that end with them.
+pub fn close(
+    alloc: Global,
+    topics: &mut Vec<Topic>,
+    ids: &[u32],
+    conn: u32,
+) -> Result<Changes, AllocError>
+    requires rising { IsRising 0 topics.old.items }
+    requires sorted { IsStrictlyIncreasing ids.now }
+    requires among { AreAmong ids.now conn topics.old.items }
+    ensures changes { IfOk result (λ changes. changes ≡ drop_changes topics.old.items conn) }
+    ensures topics { OnOk result (topics.new.items ≡ dropped topics.old.items conn) }
+{
+    let mut changes = Changes::empty(alloc);
+    for id in ids {
+        leave_topic(alloc, topics, *id, conn, &mut changes)?;
+    }
+    Ok(changes)
+}
+
+/// Takes the connection's publishers out of all topics, and the topics that end with them, in one
+/// walk.
+pub fn close_in_one_walk(
+    alloc: Global,
+    topics: &mut Vec<Topic>,
+    conn: u32,
+) -> Result<Changes, AllocError>
     ensures changes { IfOk result (λ changes. changes ≡ drop_changes topics.old.items conn) }
     ensures topics { OnOk result (topics.new.items ≡ dropped topics.old.items conn) }
 {
     let changes = ends_of_conn(alloc, topics, conn)?;
-    leave(alloc, topics, conn);
+    leave_everywhere(alloc, topics, conn);
     Ok(changes)
 }
 

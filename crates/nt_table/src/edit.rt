@@ -2,6 +2,7 @@
 
 ghost use Rattle.std.specs.Prelude.{◌≡◌, ◌<◌, vec_len, remove, map, filter, not, pos, None, [], ◌∷◌, ◌++◌, IfOk, OnOk};
 ghost use Rattle.nt_table.specs.Topics.{change_at, is_publisher, is_of, left_of, if_counts, put_cause_to, with_value, with_publisher, without_publisher, without_conn, new_topic, outlives, dropped};
+ghost use Rattle.nt_table.specs.Index.{left_by};
 ghost use Rattle.nt_table.specs.Changes.{outcome_of, ended, end_of, put_change, drop_changes};
 
 use crate::cause::put_cause;
@@ -184,6 +185,34 @@ fn remove_at(topics: &mut Vec<Topic>, i: usize)
     let _gone = topics.remove(i);
 }
 
+/// Tells the end of a topic, where it ends with the connection's publishers.
+pub fn tell_end(
+    alloc: Global,
+    topic: &Topic,
+    conn: u32,
+    changes: &mut Changes,
+) -> Result<(), AllocError>
+    ensures { OnOk result (changes.new ≡ changes.old ++ drop_changes (topic.now ∷ []) conn) }
+{
+    if !outlives(topic, conn) {
+        changes.push(ended(alloc, topic)?)?;
+    }
+    Ok(())
+}
+
+/// Takes the connection's publishers out of the topic at a position, and the topic where it ends
+/// with them.
+pub fn leave(alloc: Global, topics: &mut Vec<Topic>, i: usize, conn: u32)
+    requires { i < vec_len topics.old }
+    ensures { topics.new.items ≡ change_at (left_by conn) i topics.old.items }
+{
+    if outlives(&topics[i], conn) {
+        drop_conn(alloc, &mut topics[i], conn);
+    } else {
+        remove_at(topics, i);
+    }
+}
+
 /// The ends that the end of a connection makes, by rising id.
 pub fn ends_of_conn(alloc: Global, topics: &[Topic], conn: u32) -> Result<Changes, AllocError>
     ensures { IfOk result (λ changes. changes ≡ drop_changes topics.now conn) }
@@ -197,8 +226,8 @@ pub fn ends_of_conn(alloc: Global, topics: &[Topic], conn: u32) -> Result<Change
     Ok(changes)
 }
 
-/// Takes the connection's publishers out, and the topics that end with them.
-pub fn leave(alloc: Global, topics: &mut Vec<Topic>, conn: u32)
+/// Takes the connection's publishers out of all topics, and the topics that end with them.
+pub fn leave_everywhere(alloc: Global, topics: &mut Vec<Topic>, conn: u32)
     ensures { topics.new.items ≡ dropped topics.old.items conn }
 {
     keep_outliving(topics, conn);

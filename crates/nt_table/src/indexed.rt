@@ -3,8 +3,8 @@
 ghost use Rattle.std.specs.Prelude.{◌≡◌, ◌+◌, ℕ, List, false, option_copied, IfOk, OnOk};
 ghost use Rattle.std.specs.List.{list_any, find, position};
 ghost use Rattle.serde_json.specs.Data.{Data};
-ghost use Rattle.nt_table.specs.Index.{id_named, id_of, count_of, is_at, IsRising, IsIndexed, StaysIndexed};
-ghost use Rattle.nt_table.specs.Topics.{is_named, has_publisher, publishers_of, if_counts, publish_cause, published, next_after, unpublish_cause, unpublished, update_cause, with_props, put_cause, with_put, dropped, restore_cause, restored};
+ghost use Rattle.nt_table.specs.Index.{id_named, id_of, is_at, IsRising, IsIndexed, StaysIndexed, AreSaid};
+ghost use Rattle.nt_table.specs.Topics.{is_named, has_publisher, if_counts, publish_cause, published, next_after, unpublish_cause, unpublished, update_cause, with_props, put_cause, with_put, dropped, restore_cause, restored};
 ghost use Rattle.nt_table.specs.Changes.{outcome_of, publish_changes, unpublish_changes, update_changes, put_changes, drop_changes, restore_changes};
 
 use crate::call;
@@ -15,6 +15,10 @@ use crate::topic::{Change, Changes, Outcome, Pub, Saved, Topic};
 use nt_topics::{Props, TopicName, Update};
 use nt_values::Value;
 use std::alloc::{AllocError, Global};
+
+/// As many topics are taken out one by one. Each moves those behind it, so that for more of them
+/// one walk over all is cheaper.
+const FEW_TOPICS: usize = 64;
 
 /// The position of the topic of this name.
 fn position_of_name(topics: &[Topic], index: &Index, name: &str) -> Option<usize>
@@ -223,7 +227,7 @@ pub fn close(
     conn: u32,
 ) -> Result<Changes, AllocError>
     requires rising { IsRising 0 topics.old.items }
-    requires indexed { count_of index.old conn ≡ publishers_of conn topics.old.items }
+    requires indexed { AreSaid (id_of index.old conn) conn topics.old.items }
     ensures changes { IfOk result (λ changes. changes ≡ drop_changes topics.old.items conn) }
     ensures topics { OnOk result (topics.new.items ≡ dropped topics.old.items conn) }
     ensures indexed { OnOk result
@@ -235,21 +239,23 @@ pub fn close(
     Ok(changes)
 }
 
-/// Takes the publishers out of the topics. A connection that has none touches no topic.
+/// Takes the publishers out of the topics: where these are few, out of each alone.
 fn close_topics(
     alloc: Global,
     topics: &mut Vec<Topic>,
     index: &Index,
     conn: u32,
 ) -> Result<Changes, AllocError>
-    requires { count_of index.now conn ≡ publishers_of conn topics.old.items }
+    requires rising { IsRising 0 topics.old.items }
+    requires indexed { AreSaid (id_of index.now conn) conn topics.old.items }
     ensures changes { IfOk result (λ changes. changes ≡ drop_changes topics.old.items conn) }
     ensures topics { OnOk result (topics.new.items ≡ dropped topics.old.items conn) }
 {
-    if index.count_of(conn) == 0 {
-        return Ok(Changes::empty(alloc));
+    let ids = index.ids_of_conn(alloc, conn)?;
+    if ids.len() > FEW_TOPICS {
+        return call::close_in_one_walk(alloc, topics, conn);
     }
-    call::close(alloc, topics, conn)
+    call::close(alloc, topics, ids.as_slice(), conn)
 }
 
 /// Begins a saved topic with the next id.

@@ -1,16 +1,10 @@
-use Rattle.std.proofs.Common.{◌≡◌, ◌∙◌, rules}
-use Rattle.nt_table.specs.Topics.{publishers_of}
-use Rattle.nt_table.proofs.Numbers.{total-publishers}
-use Rattle.nt_table.proofs.Filed.{dropped-none, nothing-dropped}
+use Rattle.std.proofs.Common.{sym, subst}
+use Rattle.nt_table.specs.Index.{id_of, AreAmong}
+use Rattle.nt_table.proofs.Leaving.{among-said}
 use Rattle.nt_table.proofs.indexed.close_topics.Goals as goal
 
-pub returns-then-count_of-eq0-clause-changes : goal.returns-then-count_of-eq0-clause-changes
-returns-then-count_of-eq0-clause-changes c =
-    let none : publishers_of c.args.conn c.args.topics.now.items ≡ 0 = search rules in
-    c.empty.ensures
-    ∙ nothing-dropped c.args.conn c.args.topics.now.items (total-publishers c.args.conn c.args.topics.now.items ∙ none)
-
-pub returns-then-count_of-eq0-clause-topics : goal.returns-then-count_of-eq0-clause-topics
-returns-then-count_of-eq0-clause-topics c =
-    let none : publishers_of c.args.conn c.args.topics.now.items ≡ 0 = search rules in
-    dropped-none c.args.conn c.args.topics.now.items (total-publishers c.args.conn c.args.topics.now.items ∙ none)
+pub close-requires-clause-among : goal.close-requires-clause-among
+close-requires-clause-among c =
+    subst (λ ids. AreAmong ids c.args.conn c.args.topics.now.items) (sym c.as_slice.ensures.value)
+    (among-said c.args.conn (id_of c.args.index.now c.args.conn) c.in_ok-ids.ids.items c.args.topics.now.items
+    (λ uid id at. (c.in_ok-ids.ensures.ids id).1 (uid, at)) c.requires.indexed)
