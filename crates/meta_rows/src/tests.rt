@@ -171,6 +171,65 @@ a7 6f 70 74 69 6f 6e 73 81 aa 74 6f 70 69 63 73 6f 6e 6c 79 c3 \
     Ok(())
 }
 
+/// A connection with publishers and subscriptions of `/a` that have these uids.
+fn conn_row(alloc: Global, conn: u32, name: &str, uids: &[i64]) -> Result<ConnRow, Fail> {
+    let mut pubs = PubRows::empty(alloc);
+    let mut subs = SubRows::empty(alloc);
+    for uid in uids {
+        let topic = TopicName::of(alloc, "/a")?;
+        pubs.push(PubRow { uid: *uid, topic })?;
+        subs.push(sub_row(alloc, *uid, &["/a"], "")?)?;
+    }
+    let name = Name::of(alloc, name)?;
+    Ok(ConnRow {
+        conn,
+        name,
+        pubs,
+        subs,
+    })
+}
+
+/// A roster whose rows stand in no order: of the connection 2 the uids 5 and 3, and of 1 the uid 4.
+fn unordered(alloc: Global) -> Result<Roster, Fail> {
+    let second = conn_row(alloc, 2, "b", &[5, 3])?;
+    let first = conn_row(alloc, 1, "a", &[4])?;
+    let conns = ListOf::of_vec(vec![in alloc; second, first]?);
+    let name = TopicName::of(alloc, "/a")?;
+    let topics = ListOf::of_vec(vec![in alloc; LifeRow { id: 1, name }]?);
+    Ok(Roster { conns, topics })
+}
+
+#[test]
+fn rows_are_told_by_number_and_uid(rt: HostRuntime) -> Result<(), Fail> {
+    let alloc = rt.alloc();
+    let roster = unordered(alloc)?;
+    let mut lines = String::new(alloc);
+    for name in [
+        "$clients",
+        "$client_pub$b",
+        "$client_sub$b",
+        "$pub$/a",
+        "$sub$/a",
+    ] {
+        lines.push_str(value(alloc, name, &roster)?.as_str())?;
+        lines.push('\n')?;
+    }
+    let expected = " 92 82 a2 69 64 a1 61 a4 63 6f 6e 6e a1 31 \
+82 a2 69 64 a1 62 a4 63 6f 6e 6e a1 32
+ 92 82 a3 75 69 64 03 a5 74 6f 70 69 63 a2 2f 61 82 a3 75 69 64 05 a5 74 6f 70 69 63 a2 2f 61
+ 92 83 a3 75 69 64 03 a6 74 6f 70 69 63 73 91 a2 2f 61 a7 6f 70 74 69 6f 6e 73 80 \
+83 a3 75 69 64 05 a6 74 6f 70 69 63 73 91 a2 2f 61 a7 6f 70 74 69 6f 6e 73 80
+ 93 82 a6 63 6c 69 65 6e 74 a1 61 a6 70 75 62 75 69 64 04 \
+82 a6 63 6c 69 65 6e 74 a1 62 a6 70 75 62 75 69 64 03 \
+82 a6 63 6c 69 65 6e 74 a1 62 a6 70 75 62 75 69 64 05
+ 93 83 a6 63 6c 69 65 6e 74 a1 61 a6 73 75 62 75 69 64 04 a7 6f 70 74 69 6f 6e 73 80 \
+83 a6 63 6c 69 65 6e 74 a1 62 a6 73 75 62 75 69 64 03 a7 6f 70 74 69 6f 6e 73 80 \
+83 a6 63 6c 69 65 6e 74 a1 62 a6 73 75 62 75 69 64 05 a7 6f 70 74 69 6f 6e 73 80
+";
+    assert_eq!(rt; lines.as_str(), expected);
+    Ok(())
+}
+
 /// A client's subscriptions: two of one long name, spelled in 28 bytes more, and a short one.
 fn long_subs(alloc: Global, first: usize, second: usize) -> Result<Roster, Fail> {
     let mut subs = SubRows::empty(alloc);

@@ -9,7 +9,9 @@ use Rattle.nt_meta.specs.declared.roster.LifeRow.{LifeRow}
 use Rattle.nt_meta.specs.declared.roster.Roster.{Roster}
 use Rattle.nt_meta.specs.declared.meta.MetaNow.{MetaNow}
 use Rattle.nt_meta.specs.Meta.{last_number, id_of, topic_pub, topic_sub, client_pub, client_sub, clients, server_pub, server_sub, is_named, metas}
-use Rattle.nt_meta.specs.Rosters.{Pairwise, IsRoster, AreById, AreFound}
+use Rattle.nt_meta.specs.Order.{ordered}
+use Rattle.nt_meta.proofs.InOrder.{all-weaker, names-differ}
+use Rattle.nt_meta.specs.Rosters.{Pairwise, IsRoster, AreById, AreFound, AreFoundInOrder}
 
 -- ---- what holds of each of two lists
 
@@ -23,11 +25,6 @@ all-each : {X Y : Type 0} (Q : Y → Type 0) (f : X → Y) (xs : List X) (ys : L
     → ((x : X) → Q (f x)) → AllByRecursion Q ys → AllByRecursion Q (map f xs ++ ys)
 all-each Q f [] ys step rest = rest
 all-each Q f (x ∷ xs) ys step rest = (step x, all-each Q f xs ys step rest)
-
-all-weaker : {Y : Type 0} (P Q : Y → Type 0) (ys : List Y) → ((y : Y) → P y → Q y) → AllByRecursion P ys
-    → AllByRecursion Q ys
-all-weaker P Q [] step all = tt
-all-weaker P Q (y ∷ ys) step all = (step y all.0, all-weaker P Q ys step all.1)
 
 all-both : {Y : Type 0} (P Q R : Y → Type 0) (ys : List Y) → ((y : Y) → P y → Q y → R y)
     → AllByRecursion P ys → AllByRecursion Q ys → AllByRecursion R ys
@@ -127,8 +124,9 @@ found-own (x ∷ xs) apart = (
       apart.0 (found-own xs apart.1),
 )
 
-pub metas-found : (r : Roster) → IsRoster r → AreFound r
-metas-found r n =
+own-found : (r : Roster) → Pairwise (λ a b. a.name ≢ b.name) r.conns
+    → Pairwise (λ a b. a.name ≢ b.name) r.topics → AreFound r
+own-found r clients_differ topics_differ =
     let own = clients r ∷ server_pub ∷ server_sub ∷ [] in
     let subs = map client_sub r.conns ++ own in
     let pubs = map client_pub r.conns ++ subs in
@@ -136,25 +134,31 @@ metas-found r n =
     let apart6 : Apart own = ((refl, (refl, tt)), ((refl, tt), (tt, tt))) in
     let apart5 : Apart subs =
     apart-rows (codes "$client_sub$") (λ (c : ConnRow). c.name) client_sub
-    (λ c. refl) r.conns n.clients_differ own
+    (λ c. refl) r.conns clients_differ own
     (λ key. (refl, (refl, (refl, tt)))) apart6 in
     let apart4 : Apart pubs =
     apart-rows (codes "$client_pub$") (λ (c : ConnRow). c.name) client_pub
-    (λ c. refl) r.conns n.clients_differ subs
+    (λ c. refl) r.conns clients_differ subs
     (λ key. all-each (λ m. bytes_eq (codes "$client_pub$" ++ key) m.name ≡ false) client_sub r.conns own
     (λ c. refl)
     (refl, (refl, (refl, tt)))) apart5 in
     let apart3 : Apart told =
     apart-rows (codes "$sub$") (λ (t : LifeRow). t.name) (topic_sub r)
-    (λ t. refl) r.topics n.topics_differ pubs
+    (λ t. refl) r.topics topics_differ pubs
     (λ key. all-each (λ m. bytes_eq (codes "$sub$" ++ key) m.name ≡ false) client_pub r.conns subs (λ c. refl)
     (all-each (λ m. bytes_eq (codes "$sub$" ++ key) m.name ≡ false) client_sub r.conns own (λ c. refl)
     (refl, (refl, (refl, tt))))) apart4 in
     found-own (metas r)
     (apart-rows (codes "$pub$") (λ (t : LifeRow). t.name) (topic_pub r)
-    (λ t. refl) r.topics n.topics_differ told
+    (λ t. refl) r.topics topics_differ told
     (λ key. all-each (λ m. bytes_eq (codes "$pub$" ++ key) m.name ≡ false) (topic_sub r) r.topics pubs
     (λ t. refl)
     (all-each (λ m. bytes_eq (codes "$pub$" ++ key) m.name ≡ false) client_pub r.conns subs (λ c. refl)
     (all-each (λ m. bytes_eq (codes "$pub$" ++ key) m.name ≡ false) client_sub r.conns own (λ c. refl)
     (refl, (refl, (refl, tt)))))) apart3)
+
+pub metas-found : (r : Roster) → IsRoster r → AreFound r
+metas-found r n = own-found r n.clients_differ n.topics_differ
+
+pub ordered-found : (r : Roster) → IsRoster r → AreFoundInOrder r
+ordered-found r n = own-found (ordered r) (names-differ r n.by_number n.clients_differ) n.topics_differ

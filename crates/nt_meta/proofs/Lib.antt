@@ -3,4 +3,5 @@ pub mod Packing
 pub mod Names
 pub mod Metas
 pub mod Fronts
+pub mod InOrder
 pub mod Apart

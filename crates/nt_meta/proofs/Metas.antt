@@ -6,7 +6,7 @@ use Rattle.nt_meta.specs.declared.roster.Roster.{Roster}
 use Rattle.nt_meta.specs.declared.meta.MetaNow.{MetaNow}
 use Rattle.nt_meta.specs.declared.topic.MetaTopic.{MetaTopic}
 use Rattle.nt_meta.specs.declared.topic.MetaTopic.TheVariants.{TopicPub, TopicSub, ClientPub, ClientSub, Clients, ServerPub, ServerSub}
-use Rattle.nt_meta.specs.Meta.{IsNumbered, last_number, topic_pub, topic_sub, client_pub, client_sub, metas, meta_named, is_named}
+use Rattle.nt_meta.specs.Meta.{IsNumbered, last_number, topic_pub, topic_sub, client_pub, client_sub, metas, named_in, is_named}
 use Rattle.nt_meta.specs.Topics.{meta_of, number_of}
 
 -- one more of what is made of each of some rows
@@ -65,13 +65,13 @@ number-is r ServerSub = refl
 
 -- what was found by a name has an id of 32 bits
 pub found-number : (r : Roster) (name : List ℕ) (t : MetaTopic) → IsNumbered r → Some (meta_of r t)
-    ≡ meta_named r name
+    ≡ named_in r name
     → number_of t < 2 ^ 32
 found-number r name t n e =
     let small : IsId (meta_of r t) =
     subst (λ z. IfSome z IsId) (sym e) (found-id (is_named name) (metas r) (ids-of-metas r n)) in
     subst (λ z. z < 2 ^ 32) (number-is r t) small
 
-pub found-is : (r : Roster) (name : List ℕ) (t : MetaTopic) → Some (meta_of r t) ≡ meta_named r name
-    → Some (number_of t) ≡ option_map (λ m. m.id) (meta_named r name)
+pub found-is : (r : Roster) (name : List ℕ) (t : MetaTopic) → Some (meta_of r t) ≡ named_in r name
+    → Some (number_of t) ≡ option_map (λ m. m.id) (named_in r name)
 found-is r name t e = ap (λ z. Some z) (sym (number-is r t)) ∙ ap (option_map (λ (m : MetaNow). m.id)) e

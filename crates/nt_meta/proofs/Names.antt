@@ -9,7 +9,7 @@ use Rattle.nt_meta.specs.declared.roster.ConnRow.{ConnRow}
 use Rattle.nt_meta.specs.declared.roster.LifeRow.{LifeRow}
 use Rattle.nt_meta.specs.declared.roster.Roster.{Roster}
 use Rattle.nt_meta.specs.declared.meta.MetaNow.{MetaNow}
-use Rattle.nt_meta.specs.Meta.{topic_pub, topic_sub, client_pub, client_sub, clients, server_pub, server_sub, is_named, meta_named}
+use Rattle.nt_meta.specs.Meta.{topic_pub, topic_sub, client_pub, client_sub, clients, server_pub, server_sub, is_named, named_in}
 
 same-tests : (a b : Bool) → (a ≡ true → b ≡ true) → (b ≡ true → a ≡ true) → a ≡ b
 same-tests true b f g = sym (f refl)
@@ -85,7 +85,7 @@ abbrev E : Roster → List ℕ → Option MetaNow
 E r name = find (is_named name) (clients r ∷ server_pub ∷ server_sub ∷ [])
 
 found-first : (r : Roster) (name : List ℕ)
-    → meta_named r name ≡ first_of r (A r name) (B r name) (C r name) (D r name) (E r name)
+    → named_in r name ≡ first_of r (A r name) (B r name) (C r name) (D r name) (E r name)
 found-first r name =
     found-behind name (topic_pub r) r.topics _
     ∙ ap (λ z. option_or (option_map (topic_pub r) (A r name)) z)
@@ -97,19 +97,19 @@ found-first r name =
 
 -- where nothing was found of the kinds before
 pub found-topic_pub : (r : Roster) (name : List ℕ) (x : LifeRow) → Some x ≡ A r name → Some (topic_pub r x)
-    ≡ meta_named r name
+    ≡ named_in r name
 found-topic_pub r name x e =
     ap (λ a. first_of r a (B r name) (C r name) (D r name) (E r name)) e ∙ sym (found-first r name)
 
 pub found-topic_sub : (r : Roster) (name : List ℕ) (x : LifeRow) → None ≡ A r name → Some x ≡ B r name
-    → Some (topic_sub r x) ≡ meta_named r name
+    → Some (topic_sub r x) ≡ named_in r name
 found-topic_sub r name x a e =
     ap (λ b. first_of r None b (C r name) (D r name) (E r name)) e
     ∙ ap (λ a. first_of r a (B r name) (C r name) (D r name) (E r name)) a ∙ sym (found-first r name)
 
 pub found-client_pub : (r : Roster) (name : List ℕ) (x : ConnRow) → None ≡ A r name → None ≡ B r name
     → Some x ≡ C r name
-    → Some (client_pub x) ≡ meta_named r name
+    → Some (client_pub x) ≡ named_in r name
 found-client_pub r name x a b e =
     ap (λ c. first_of r None None c (D r name) (E r name)) e
     ∙ ap (λ b. first_of r None b (C r name) (D r name) (E r name)) b
@@ -117,7 +117,7 @@ found-client_pub r name x a b e =
 
 pub found-client_sub : (r : Roster) (name : List ℕ) (x : ConnRow) → None ≡ A r name → None ≡ B r name → None
     ≡ C r name
-    → Some x ≡ D r name → Some (client_sub x) ≡ meta_named r name
+    → Some x ≡ D r name → Some (client_sub x) ≡ named_in r name
 found-client_sub r name x a b c e =
     ap (λ d. first_of r None None None d (E r name)) e
     ∙ ap (λ c. first_of r None None c (D r name) (E r name)) c
@@ -126,7 +126,7 @@ found-client_sub r name x a b c e =
 
 pub found-server : (r : Roster) (name : List ℕ) (x : Option MetaNow) → None ≡ A r name → None ≡ B r name
     → None ≡ C r name
-    → None ≡ D r name → x ≡ E r name → x ≡ meta_named r name
+    → None ≡ D r name → x ≡ E r name → x ≡ named_in r name
 found-server r name x a b c d e =
     e ∙ ap (λ d. first_of r None None None d (E r name)) d
     ∙ ap (λ c. first_of r None None c (D r name) (E r name)) c

@@ -1,5 +1,6 @@
 pub mod Elements
 pub mod Packing
+pub mod Order
 pub mod Meta
 pub mod Topics
 pub mod Rosters

@@ -5,6 +5,7 @@ use Rattle.nt_meta.specs.declared.roster.ConnRow.{ConnRow}
 use Rattle.nt_meta.specs.declared.roster.LifeRow.{LifeRow}
 use Rattle.nt_meta.specs.declared.roster.Roster.{Roster}
 use Rattle.nt_meta.specs.declared.meta.MetaNow.{MetaNow}
+use Rattle.nt_meta.specs.Order.{ordered}
 use Rattle.nt_meta.specs.Elements.{client_element, publisher_element, subscription_element, publishers_of, subscribers_of}
 use Rattle.nt_meta.specs.Packing.{array_bytes}
 
@@ -74,16 +75,21 @@ metas r =
 abbrev pub is_named : List ℕ → MetaNow → Bool
 is_named name m = bytes_eq m.name name
 
+-- the one of this name, with the rows as they stand
+abbrev pub named_in : Roster → List ℕ → Option MetaNow
+named_in r name = find (is_named name) (metas r)
+
+-- and with the rows in order
 abbrev pub meta_named : Roster → List ℕ → Option MetaNow
-meta_named r name = find (is_named name) (metas r)
+meta_named r name = named_in (ordered r) name
 
 -- the value of the meta topic of this name, where one lives
 abbrev pub meta_bytes : Roster → List ℕ → Option (List ℕ)
 meta_bytes r name = option_map (λ m. m.bytes) (meta_named r name)
 
--- and its id
+-- its id, for which the order of the rows is nothing
 abbrev pub meta_number : Roster → List ℕ → Option ℕ
-meta_number r name = option_map (λ m. m.id) (meta_named r name)
+meta_number r name = option_map (λ m. m.id) (named_in r name)
 
 -- ---- rosters
 

@@ -1,9 +1,10 @@
 -- What holds of the roster of a server, and what follows for its meta topics.
-use Rattle.std.specs.Prelude.{◌≡◌, ◌≢◌, ◌<◌, ◌≤◌, ℕ, List, [], ◌∷◌, ◌++◌, length, Some}
+use Rattle.std.specs.Prelude.{◌≡◌, ◌≢◌, ◌<◌, ◌≤◌, ◌<ℤ◌, ℕ, List, [], ◌∷◌, ◌++◌, length, Some}
 use Rattle.std.specs.List.{AllByRecursion, flat_map}
 use Rattle.nt_meta.specs.declared.roster.Roster.{Roster}
+use Rattle.nt_meta.specs.Order.{ordered}
 use Rattle.nt_meta.specs.Packing.{most_bytes}
-use Rattle.nt_meta.specs.Meta.{IsNumbered, metas, meta_named}
+use Rattle.nt_meta.specs.Meta.{IsNumbered, metas, named_in, meta_named}
 
 -- the relation holds of each item and each one after it
 abbrev pub Pairwise : {X : Type 0} → (X → X → Type 0) → List X → Type 0
@@ -18,13 +19,23 @@ pub record IsRoster (r : Roster) : Type 0 where
   pub clients_differ : Pairwise (λ a b. a.name ≢ b.name) r.conns
   pub topics_differ : Pairwise (λ a b. a.name ≢ b.name) r.topics
 
+-- connections stand by rising number, and the publishers and the subscriptions of each by rising uid
+pub record IsInOrder (r : Roster) : Type 0 where
+  pub conns : Pairwise (λ a b. a.conn < b.conn) r.conns
+  pub pubs : AllByRecursion (λ c. Pairwise (λ a b. a.uid <ℤ b.uid) c.pubs) r.conns
+  pub subs : AllByRecursion (λ c. Pairwise (λ a b. a.uid <ℤ b.uid) c.subs) r.conns
+
 -- meta topics stand by rising id
 abbrev pub AreById : Roster → Type 0
 AreById r = Pairwise (λ a b. a.id < b.id) (metas r)
 
--- each of them is the one that its name finds
+-- each of them is the one that its name finds, with the rows as they stand
 abbrev pub AreFound : Roster → Type 0
-AreFound r = AllByRecursion (λ m. meta_named r m.name ≡ Some m) (metas r)
+AreFound r = AllByRecursion (λ m. named_in r m.name ≡ Some m) (metas r)
+
+-- and with the rows in order
+abbrev pub AreFoundInOrder : Roster → Type 0
+AreFoundInOrder r = AllByRecursion (λ m. meta_named r m.name ≡ Some m) (metas (ordered r))
 
 -- a front of some spellings that is short enough, and no longer front is
 pub record IsLongestFront (all front : List (List ℕ)) : Type 0 where

@@ -2,7 +2,7 @@
 
 ghost use Rattle.std.specs.Prelude.{◌≡◌, ◌++◌, [], ◌∷◌, bytes_eq, option_copied, option_map};
 ghost use Rattle.std.specs.List.{find};
-ghost use Rattle.nt_meta.specs.Meta.{meta_named, is_named, clients, server_pub, server_sub};
+ghost use Rattle.nt_meta.specs.Meta.{named_in, is_named, clients, server_pub, server_sub};
 ghost use Rattle.nt_meta.specs.declared.roster.Roster.{Roster};
 ghost use Rattle.nt_meta.specs.Topics.{meta_of};
 
@@ -11,7 +11,7 @@ use crate::topic::MetaTopic;
 
 /// The meta topic of this name that lives.
 pub fn meta_topic<'a>(name: &str, roster: &'a Roster) -> Option<MetaTopic<'a>>
-    ensures { option_map (meta_of roster.now) result ≡ meta_named roster.now name.now }
+    ensures { option_map (meta_of roster.now) result ≡ named_in roster.now name.now }
 {
     let lives = roster.topics.as_slice();
     let conns = roster.conns.as_slice();

@@ -1,15 +1,22 @@
 //! What the definitions of meta topics amount to.
 
-ghost use Rattle.std.specs.Prelude.{ℕ, List};
+ghost use Rattle.std.specs.Prelude.{◌≡◌, ℕ, List};
 ghost use Rattle.nt_meta.specs.declared.roster.Roster.{Roster};
+ghost use Rattle.nt_meta.specs.Order.{ordered};
 ghost use Rattle.nt_meta.specs.Packing.{fitting};
-ghost use Rattle.nt_meta.specs.Rosters.{IsRoster, AreById, AreFound, IsLongestFront};
+ghost use Rattle.nt_meta.specs.Rosters.{IsInOrder, IsRoster, AreById, AreFound, AreFoundInOrder, IsLongestFront};
 
 /// Of a server's roster the meta topics stand by rising id, so that no two share one, and each is
-/// the one that is found by its name.
+/// the one that is found by its name; so also with the rows in order.
 pub fn metas_are_apart()
     ensures by_id { (r : Roster) → IsRoster r → AreById r }
     ensures found { (r : Roster) → IsRoster r → AreFound r }
+    ensures ordered { (r : Roster) → IsRoster r → AreFoundInOrder r }
+{}
+
+/// Rows that are in order are told as they stand.
+pub fn rows_in_order_stay()
+    ensures { (r : Roster) → IsInOrder r → ordered r ≡ r }
 {}
 
 /// Of the elements of a list the longest front is kept that has at most 1,048,576 bytes.

@@ -1,9 +1,10 @@
 //! The meta topics.
 
-ghost use Rattle.std.specs.Prelude.{◌≡◌, ◌++◌, map, IfOk, OnOk};
-ghost use Rattle.nt_meta.specs.Meta.{IsNumbered, metas, meta_bytes, meta_number, topic_pub, topic_sub, client_pub, client_sub};
+ghost use Rattle.std.specs.Prelude.{◌≡◌, ◌++◌, map, option_map, IfOk, OnOk};
+ghost use Rattle.nt_meta.specs.Meta.{IsNumbered, metas, named_in, meta_bytes, meta_number, topic_pub, topic_sub, client_pub, client_sub};
 
 use crate::find::meta_topic;
+use crate::order::ordered_roster;
 use crate::roster::Roster;
 use crate::topic::MetaTopic;
 use nt_topics::Name;
@@ -18,14 +19,24 @@ pub struct MetaNow {
     pub bytes: Bytes,
 }
 
-/// Meta topics, by rising id.
+/// Meta topics.
 pub type Metas = ListOf<MetaNow>;
 
-/// The value of the meta topic of this name, and None exactly where none lives. It fails for want
-/// of memory, and where a text or a list in it has a length of 2^32 or more, for which there is no
-/// spelling.
+/// The value of the meta topic of this name, and None exactly where none lives. Its rows are told
+/// by rising number of the connection and then by rising uid, in whatever order the roster has
+/// them. It fails for want of memory, and where a text or a list in it has a length of 2^32 or
+/// more, for which there is no spelling.
 pub fn meta_value(alloc: Global, name: &str, roster: &Roster) -> Result<Option<Bytes>, AllocError>
     ensures { IfOk result (λ value. value ≡ meta_bytes roster.now name.now) }
+{
+    let ordered = ordered_roster(alloc, roster)?;
+    value_in(alloc, name, &ordered)
+}
+
+/// The same, with the rows told as they stand. It fails as `meta_value` does.
+fn value_in(alloc: Global, name: &str, roster: &Roster) -> Result<Option<Bytes>, AllocError>
+    ensures { IfOk result (λ value. value
+        ≡ option_map (λ m. m.bytes) (named_in roster.now name.now)) }
 {
     match meta_topic(name, roster) {
         Some(topic) => Ok(Some(topic.bytes(alloc, roster)?)),
@@ -44,7 +55,8 @@ pub fn meta_id(name: &str, roster: &Roster) -> Option<u32>
     }
 }
 
-/// All meta topics that live. It fails as `meta_value` does.
+/// All meta topics that live, their rows told as they stand in the roster. It fails as `meta_value`
+/// does.
 pub fn all_metas(alloc: Global, roster: &Roster) -> Result<Metas, AllocError>
     requires { IsNumbered roster.now }
     ensures { IfOk result (λ all. all ≡ metas roster.now) }

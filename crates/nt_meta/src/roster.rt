@@ -11,7 +11,7 @@ pub struct PubRow {
     pub topic: TopicName,
 }
 
-/// The publishers of a connection, by rising uid.
+/// The publishers of a connection.
 pub type PubRows = ListOf<PubRow>;
 
 /// A subscription of a connection, with its uid there.
@@ -21,7 +21,7 @@ pub struct SubRow {
     pub sub: Sub,
 }
 
-/// The subscriptions of a connection, by rising uid.
+/// The subscriptions of a connection.
 pub type SubRows = ListOf<SubRow>;
 
 /// An open connection: its number, the name that it was given, its publishers and subscriptions.
@@ -33,7 +33,7 @@ pub struct ConnRow {
     pub subs: SubRows,
 }
 
-/// The open connections, by rising number.
+/// The open connections.
 pub type Conns = ListOf<ConnRow>;
 
 /// A living topic that a client published.
@@ -43,10 +43,10 @@ pub struct LifeRow {
     pub name: TopicName,
 }
 
-/// The living topics, by rising id.
+/// The living topics.
 pub type Lives = ListOf<LifeRow>;
 
-/// The open connections and the living topics, each list in the order in which it is told.
+/// The open connections and the living topics.
 #[derive(Debug, Drop)]
 pub struct Roster {
     pub conns: Conns,
