@@ -56,9 +56,8 @@ pub fn meta_id(name: &str, roster: &Roster) -> Option<u32>
 }
 
 /// All meta topics that live, their rows told as they stand in the roster. It fails as `meta_value`
-/// does.
+/// does, and where an id would pass 32 bits.
 pub fn all_metas(alloc: Global, roster: &Roster) -> Result<Metas, AllocError>
-    requires { IsNumbered roster.now }
     ensures { IfOk result (λ all. all ≡ metas roster.now) }
 {
     let mut all = Metas::empty(alloc);
@@ -74,7 +73,6 @@ pub fn all_metas(alloc: Global, roster: &Roster) -> Result<Metas, AllocError>
 
 /// Adds who publishes to each topic.
 fn add_topic_pubs(alloc: Global, all: &mut Metas, roster: &Roster) -> Result<(), AllocError>
-    requires { IsNumbered roster.now }
     ensures { OnOk result (all.new ≡ all.old ++ map (topic_pub roster.now) roster.now.topics) }
 {
     for life in roster.topics.as_slice() {
@@ -85,7 +83,6 @@ fn add_topic_pubs(alloc: Global, all: &mut Metas, roster: &Roster) -> Result<(),
 
 /// Adds who subscribes to each topic.
 fn add_topic_subs(alloc: Global, all: &mut Metas, roster: &Roster) -> Result<(), AllocError>
-    requires { IsNumbered roster.now }
     ensures { OnOk result (all.new ≡ all.old ++ map (topic_sub roster.now) roster.now.topics) }
 {
     for life in roster.topics.as_slice() {
@@ -96,7 +93,6 @@ fn add_topic_subs(alloc: Global, all: &mut Metas, roster: &Roster) -> Result<(),
 
 /// Adds what each client publishes.
 fn add_client_pubs(alloc: Global, all: &mut Metas, roster: &Roster) -> Result<(), AllocError>
-    requires { IsNumbered roster.now }
     ensures { OnOk result (all.new ≡ all.old ++ map client_pub roster.now.conns) }
 {
     for conn in roster.conns.as_slice() {
@@ -107,7 +103,6 @@ fn add_client_pubs(alloc: Global, all: &mut Metas, roster: &Roster) -> Result<()
 
 /// Adds what each client subscribes to.
 fn add_client_subs(alloc: Global, all: &mut Metas, roster: &Roster) -> Result<(), AllocError>
-    requires { IsNumbered roster.now }
     ensures { OnOk result (all.new ≡ all.old ++ map client_sub roster.now.conns) }
 {
     for conn in roster.conns.as_slice() {

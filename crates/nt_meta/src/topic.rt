@@ -1,6 +1,6 @@
 //! The kinds of meta topics.
 
-ghost use Rattle.std.specs.Prelude.{◌≡◌, ◌<◌, ◌^◌, ◌++◌, IfOk};
+ghost use Rattle.std.specs.Prelude.{◌≡◌, ◌+◌, ◌<◌, ◌^◌, ◌++◌, IfOk};
 ghost use Rattle.nt_meta.specs.declared.roster.Roster.{Roster};
 ghost use Rattle.nt_meta.specs.Topics.{number_of, meta_of};
 
@@ -34,19 +34,38 @@ pub enum MetaTopic<'a> {
 }
 
 impl MetaTopic<'_> {
+    /// Its id: where the ids of its kind begin, and its number among them.
+    fn parts(&self) -> (u32, u32)
+        ensures { result.0 + result.1 ≡ number_of self.now }
+    {
+        match self {
+            MetaTopic::TopicPub(life) => (2 * KIND, life.id),
+            MetaTopic::TopicSub(life) => (3 * KIND, life.id),
+            MetaTopic::ClientPub(conn) => (4 * KIND, conn.conn),
+            MetaTopic::ClientSub(conn) => (5 * KIND, conn.conn),
+            MetaTopic::Clients => (6 * KIND, 1),
+            MetaTopic::ServerPub => (6 * KIND, 2),
+            MetaTopic::ServerSub => (6 * KIND, 3),
+        }
+    }
+
     /// Its id.
     pub fn id(&self) -> u32
         requires { number_of self.now < 2 ^ 32 }
         ensures { result ≡ number_of self.now }
     {
-        match self {
-            MetaTopic::TopicPub(life) => 2 * KIND + life.id,
-            MetaTopic::TopicSub(life) => 3 * KIND + life.id,
-            MetaTopic::ClientPub(conn) => 4 * KIND + conn.conn,
-            MetaTopic::ClientSub(conn) => 5 * KIND + conn.conn,
-            MetaTopic::Clients => 6 * KIND + 1,
-            MetaTopic::ServerPub => 6 * KIND + 2,
-            MetaTopic::ServerSub => 6 * KIND + 3,
+        let (kind, number) = self.parts();
+        kind + number
+    }
+
+    /// Its id, where that has 32 bits.
+    fn checked_id(&self) -> Result<u32, AllocError>
+        ensures { IfOk result (λ id. id ≡ number_of self.now) }
+    {
+        let (kind, number) = self.parts();
+        match kind.checked_add(number) {
+            Some(id) => Ok(id),
+            None => Err(AllocError),
         }
     }
 
@@ -81,13 +100,13 @@ impl MetaTopic<'_> {
         }
     }
 
-    /// All of it. It fails as its value does.
+    /// All of it. It fails as its value does, and where its id would pass 32 bits, which no number
+    /// of a living topic or an open connection makes it.
     pub fn now(&self, alloc: Global, roster: &Roster) -> Result<MetaNow, AllocError>
-        requires { number_of self.now < 2 ^ 32 }
         ensures { IfOk result (λ now. now ≡ meta_of roster.now self.now) }
     {
         Ok(MetaNow {
-            id: self.id(),
+            id: self.checked_id()?,
             name: self.name(alloc)?,
             bytes: self.bytes(alloc, roster)?,
         })
