@@ -1,0 +1,340 @@
+//! The messages that keys name.
+
+ghost use Rattle.std.specs.Prelude.{◌≡◌, ◌==◌, List, Option, option_copied, pos, not, map, filter, IfOk, OnOk};
+ghost use Rattle.std.specs.List.{find};
+ghost use Rattle.nt_meta.specs.declared.meta.MetaNow.{MetaNow};
+ghost use Rattle.nt_table.specs.Topics.{is_named};
+ghost use Rattle.nt_outbox.specs.Marks.{is_meta};
+ghost use Rattle.nt_outbox.specs.Messages.{unannounced, announced_topic, announced_meta, announced, uid_at, properties, text_by, said, no_value, held_value, meta_value, placed_value, value_by, mark_at, text_of, value_of, batch_of};
+ghost use Rattle.nt_outbox.specs.Steps.{RiseFrom};
+ghost use Rattle.nt_outbox.specs.Tells.{kind_of};
+
+use crate::batch::Batch;
+use crate::key::{Key, Tells};
+use crate::mark::{Mark, Placed, Publish, Setting};
+use crate::marks::position;
+use nt_control::ServerMsg;
+use nt_frames::ValueMsg;
+use nt_meta::MetaNow;
+use nt_table::{Table, Timed};
+use nt_topics::{Name, Props, TypeName};
+use nt_values::{ListOf, Value};
+use std::alloc::{AllocError, Global};
+
+/// The id of the first meta topic.
+const FIRST_META: u32 = 536_870_912;
+
+/// The type of a meta topic.
+const META_TYPE: &str = "msgpack";
+
+/// Whether the id is that of a meta topic.
+fn is_meta(id: u32) -> bool
+    ensures { result ≡ is_meta id }
+{
+    id >= FIRST_META
+}
+
+/// The end of a topic.
+fn unannounced(alloc: Global, mark: &Mark) -> Result<ServerMsg, AllocError>
+    ensures { IfOk result (λ m. m ≡ unannounced mark.now) }
+{
+    Ok(ServerMsg::Unannounce {
+        name: mark.name.copy(alloc)?,
+        id: i64::from(mark.id),
+    })
+}
+
+/// The announce of a topic, as it is now.
+fn announced_topic(
+    alloc: Global,
+    table: &Table,
+    mark: &Mark,
+    pubuid: Option<i64>,
+) -> Result<ServerMsg, AllocError>
+    ensures { IfOk result
+        (λ m. m
+        ≡ announced_topic mark.now pubuid (find (is_named mark.now.name) table.now.topics)) }
+{
+    match table.topic(mark.name.as_str()) {
+        Some(topic) => Ok(ServerMsg::Announce {
+            name: Name::of(alloc, topic.name.as_str())?,
+            id: i64::from(topic.id),
+            typ: topic.typ.copy(alloc)?,
+            pubuid,
+            props: topic.props.copy()?,
+        }),
+        None => unannounced(alloc, mark),
+    }
+}
+
+/// The announce of a meta topic.
+fn announced_meta(alloc: Global, mark: &Mark, pubuid: Option<i64>) -> Result<ServerMsg, AllocError>
+    ensures { IfOk result (λ m. m ≡ announced_meta mark.now pubuid) }
+{
+    let Ok(typ) = TypeName::of(alloc, META_TYPE) else {
+        return Err(AllocError);
+    };
+    Ok(ServerMsg::Announce {
+        name: mark.name.copy(alloc)?,
+        id: i64::from(mark.id),
+        typ,
+        pubuid,
+        props: Props::empty(alloc),
+    })
+}
+
+/// The announce of a topic or a meta topic.
+fn announced(
+    alloc: Global,
+    table: &Table,
+    mark: &Mark,
+    pubuid: Option<i64>,
+) -> Result<ServerMsg, AllocError>
+    ensures { IfOk result (λ m. (metas : List MetaNow)
+        → m ≡ announced (record { topics = table.now.topics; metas = metas }) mark.now pubuid) }
+{
+    if is_meta(mark.id) {
+        announced_meta(alloc, mark, pubuid)
+    } else {
+        announced_topic(alloc, table, mark, pubuid)
+    }
+}
+
+/// The uid of the publish at a place.
+fn uid_at(place: u64, publishes: &[Publish]) -> Option<i64>
+    ensures { result ≡ uid_at place publishes.now }
+{
+    for publish in publishes {
+        if publish.place == place {
+            return Some(publish.uid);
+        }
+    }
+    None
+}
+
+/// The change of properties at a place.
+fn setting_at(place: u64, settings: &[Setting]) -> Option<&Setting>
+    ensures { option_copied result ≡ find (λ s. s.place == place) settings.now }
+{
+    for setting in settings {
+        if setting.place == place {
+            return Some(setting);
+        }
+    }
+    None
+}
+
+/// The value at a place.
+fn value_at(place: u64, values: &[Placed]) -> Option<&Placed>
+    ensures { option_copied result ≡ find (λ p. p.place == place) values.now }
+{
+    for placed in values {
+        if placed.place == place {
+            return Some(placed);
+        }
+    }
+    None
+}
+
+/// The meta topic of this id.
+fn meta_at(id: u32, metas: &[MetaNow]) -> Option<&MetaNow>
+    ensures { option_copied result ≡ find (λ t. t.id == id) metas.now }
+{
+    for meta in metas {
+        if meta.id == id {
+            return Some(meta);
+        }
+    }
+    None
+}
+
+/// The change of a topic's properties at a place.
+fn properties(alloc: Global, mark: &Mark, place: u64) -> Result<ServerMsg, AllocError>
+    ensures { IfOk result
+        (λ m. m ≡ properties mark.now (find (λ s. s.place == place) mark.now.settings)) }
+{
+    match setting_at(place, mark.settings.as_slice()) {
+        Some(setting) => Ok(ServerMsg::Properties {
+            name: mark.name.copy(alloc)?,
+            ack: setting.is_own,
+            update: setting.update.copy()?,
+        }),
+        None => unannounced(alloc, mark),
+    }
+}
+
+/// The text that tells this of a topic.
+fn text_by(
+    alloc: Global,
+    table: &Table,
+    mark: &Mark,
+    tells: Tells,
+    place: u64,
+) -> Result<ServerMsg, AllocError>
+    ensures { IfOk result (λ m. (metas : List MetaNow)
+        → m ≡ text_by (record { topics = table.now.topics; metas = metas })
+        mark.now (kind_of tells) place) }
+{
+    match tells {
+        Tells::End | Tells::Value => unannounced(alloc, mark),
+        Tells::Publish => {
+            let pubuid = uid_at(place, mark.publishes.as_slice());
+            announced(alloc, table, mark, pubuid)
+        }
+        Tells::Setting => properties(alloc, mark, place),
+        Tells::Topic => announced(alloc, table, mark, None),
+    }
+}
+
+/// The value that a topic holds.
+fn held_value(alloc: Global, id: u32, held: &Option<Timed>) -> Result<ValueMsg, AllocError>
+    ensures { IfOk result (λ m. m ≡ held_value id held.now) }
+{
+    match held {
+        Some(held) => Ok(ValueMsg {
+            id: i64::from(id),
+            time: held.time,
+            value: held.value.copy(alloc)?,
+        }),
+        None => Ok(no_value(id)),
+    }
+}
+
+/// What stands for a value that isn't there.
+fn no_value(id: u32) -> ValueMsg
+    ensures { result ≡ no_value id }
+{
+    ValueMsg {
+        id: i64::from(id),
+        time: 0,
+        value: Value::Int(0),
+    }
+}
+
+/// The value of a meta topic, with this moment as its time.
+fn meta_value(alloc: Global, now: u64, id: u32, metas: &[MetaNow]) -> Result<ValueMsg, AllocError>
+    ensures { IfOk result (λ m. m ≡ meta_value now id (find (λ t. t.id == id) metas.now)) }
+{
+    match meta_at(id, metas) {
+        Some(meta) => Ok(ValueMsg {
+            id: i64::from(id),
+            time: now,
+            value: Value::Bytes(meta.bytes.copy(alloc)?),
+        }),
+        None => Ok(no_value(id)),
+    }
+}
+
+/// The value at a place that was kept, or else the one that the topic holds.
+fn topic_value(
+    alloc: Global,
+    table: &Table,
+    mark: &Mark,
+    place: u64,
+) -> Result<ValueMsg, AllocError>
+    ensures { IfOk result (λ m. (metas : List MetaNow)
+        → m ≡ placed_value (record { topics = table.now.topics; metas = metas }) mark.now
+        (find (λ p. p.place == place) mark.now.values)) }
+{
+    if let Some(placed) = value_at(place, mark.values.as_slice()) {
+        return Ok(ValueMsg {
+            id: i64::from(mark.id),
+            time: placed.time,
+            value: placed.value.copy(alloc)?,
+        });
+    }
+    match table.topic(mark.name.as_str()) {
+        Some(topic) => held_value(alloc, mark.id, &topic.value),
+        None => Ok(no_value(mark.id)),
+    }
+}
+
+/// The value of a topic at a place.
+fn value_by(
+    alloc: Global,
+    table: &Table,
+    metas: &[MetaNow],
+    now: u64,
+    mark: &Mark,
+    place: u64,
+) -> Result<ValueMsg, AllocError>
+    ensures { IfOk result (λ m. m
+        ≡ value_by (record { topics = table.now.topics; metas = metas.now }) now mark.now place) }
+{
+    if is_meta(mark.id) {
+        meta_value(alloc, now, mark.id, metas)
+    } else {
+        topic_value(alloc, table, mark, place)
+    }
+}
+
+/// What is kept of the topic of this id.
+fn mark_at(marks: &[Mark], id: u32) -> Option<&Mark>
+    requires { RiseFrom 0 marks.now }
+    ensures { option_copied result ≡ mark_at id marks.now }
+{
+    match position(marks, id) {
+        Ok(i) => Some(&marks[i]),
+        Err(_) => None,
+    }
+}
+
+/// The text that a key names.
+fn text_of(alloc: Global, table: &Table, marks: &[Mark], key: &Key) -> Result<ServerMsg, AllocError>
+    requires { RiseFrom 0 marks.now }
+    ensures { IfOk result (λ m. (metas : List MetaNow)
+        → m ≡ text_of (record { topics = table.now.topics; metas = metas }) marks.now key.now) }
+{
+    match mark_at(marks, key.topic()) {
+        Some(mark) => text_by(alloc, table, mark, key.tells(), key.place()),
+        None => Ok(ServerMsg::Unannounce {
+            name: Name::of(alloc, "")?,
+            id: i64::from(key.topic()),
+        }),
+    }
+}
+
+/// The value that a key names.
+fn value_of(
+    alloc: Global,
+    table: &Table,
+    metas: &[MetaNow],
+    now: u64,
+    marks: &[Mark],
+    key: &Key,
+) -> Result<ValueMsg, AllocError>
+    requires { RiseFrom 0 marks.now }
+    ensures { IfOk result (λ m. m
+        ≡ value_of (record { topics = table.now.topics; metas = metas.now })
+        now marks.now key.now) }
+{
+    match mark_at(marks, key.topic()) {
+        Some(mark) => value_by(alloc, table, metas, now, mark, key.place()),
+        None => Ok(no_value(key.topic())),
+    }
+}
+
+/// The messages of keys: the texts and the values, each in their order.
+pub fn batch_of(
+    alloc: Global,
+    table: &Table,
+    metas: &[MetaNow],
+    now: u64,
+    marks: &[Mark],
+    keys: &[Key],
+) -> Result<Batch, AllocError>
+    requires { RiseFrom 0 marks.now }
+    ensures { IfOk result (λ b. b ≡ batch_of
+        (record { topics = table.now.topics; metas = metas.now }) now marks.now keys.now) }
+{
+    let mut texts = ListOf::empty(alloc);
+    let mut values = ListOf::empty(alloc);
+    for key in keys {
+        if key.is_value() {
+            values.push(value_of(alloc, table, metas, now, marks, key)?)?;
+        } else {
+            texts.push(text_of(alloc, table, marks, key)?)?;
+        }
+    }
+    Ok(Batch { texts, values })
+}
