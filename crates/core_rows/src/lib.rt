@@ -2,4 +2,10 @@
 #![tactic(auto)]
 
 #[cfg(test)]
+mod limit_tests;
+#[cfg(test)]
+mod rows;
+#[cfg(test)]
+mod saved_tests;
+#[cfg(test)]
 mod tests;

@@ -6,12 +6,12 @@ use Rattle.std.specs.Io.KnownBytes.{Consumes, IsAtEnd, Appends}
 use Rattle.std.proofs.KnownBytes.{Consumes-nil, Consumes-trans, Appends-nil, Appends-trans}
 use Rattle.nt_server.specs.declared.act.Entry.{Entry}
 use Rattle.nt_server.specs.Step.{Kept}
-use Rattle.nt_cli.specs.declared.desk.DeskFault.{DeskFault}
-use Rattle.nt_cli.specs.declared.desk.DeskFault.TheVariants.{Memory, Read, Write}
+use Rattle.nt_cli.specs.declared.desk_output.DeskFault.{DeskFault}
+use Rattle.nt_cli.specs.declared.desk_output.DeskFault.TheVariants.{Memory, Read, Write}
 use Rattle.nt_cli.specs.Input.{most_bytes, piece_bytes}
 use Rattle.nt_cli.specs.LineReading.{most_line, IsUnbroken, Ahead, Gives, Reads, IsTooLong}
 use Rattle.nt_cli.specs.Reply.{Reply, IsGiven, IsFront, IsCutShort}
-use Rattle.nt_cli.specs.Desk.{opened, round_text, last_text, behind_round, with_text, reply_within, desk_reply, RepliesToTaken, DeskBegun, DeskBroken}
+use Rattle.nt_cli.specs.Desk.{Hearing, IsHearing, opened, round_text, last_text, behind_round, with_text, reply_within, desk_reply, RepliesAtDesk, RepliesToTaken, DeskBegun, DeskBroken}
 use Rattle.nt_cli.specs.DeskRun.{Sits, printing, Prints, Took, MayFollow, Place, left_reply, beginning, Settles, Stops, Breaks, Ends, GoesOn}
 use Rattle.nt_cli.proofs.LineFeeds.{unbroken-append}
 use Rattle.nt_cli.proofs.Rounds.{long_reply, many_reply, end_reply, line-reply, long-reply, many-reply, end-reply}
@@ -70,25 +70,25 @@ stops-silent from before now out taken consumes = record {
 
 -- ---- what is left of the reply, by what was read
 
-module _ (before now : Option (List ℕ)) (old new : Ahead) (line : List ℕ) (past : List Entry) (number : ℕ) where
+module _ (hears : Hearing) (before now : Option (List ℕ)) (old new : Ahead) (line : List ℕ) (past : List Entry) (number : ℕ) where
   abbrev pub from : Place
-  from = record { ahead = old; past = past; number = number }
+  from = record { hears = hears; ahead = old; past = past; number = number }
 
   -- behind a line
   pub left-line : (r : Reads before now old new line (10 ∷ [])) (more : List ℕ)
       → left_reply from (r.taken ++ more)
-      ≡ with_text (round_text past number line) (left_reply (record { ahead = new; past = behind_round past number line; number = number + 1 }) more)
+      ≡ with_text (round_text hears past number line) (left_reply (record { hears = hears; ahead = new; past = behind_round hears past number line; number = number + 1 }) more)
   left-line r more =
       let whole : old.bytes ++ (r.taken ++ more) ≡ line ++ 10 ∷ (new.bytes ++ more)
       = sym (append_assoc old.bytes r.taken more) ∙ ap (λ (l : List ℕ). l ++ more) r.gives.whole ∙ append_assoc line (10 ∷ new.bytes) more in
-      ap (reply_within old.room past number) whole ∙ line-reply past number old.room new.room line (new.bytes ++ more) r.gives.unbroken r.short r.gives.room
+      ap (reply_within hears old.room past number) whole ∙ line-reply hears past number old.room new.room line (new.bytes ++ more) r.gives.unbroken r.short r.gives.room
 
   -- at the end of the source
-  pub left-end : (r : Reads before now old new line []) → new.bytes ≡ [] → IsReply from r.taken true (end_reply past number line)
+  pub left-end : (r : Reads before now old new line []) → new.bytes ≡ [] → IsReply from r.taken true (end_reply hears past number line)
   left-end r none = λ more may.
       let whole : old.bytes ++ (r.taken ++ more) ≡ line
       = ap (λ (l : List ℕ). old.bytes ++ (r.taken ++ l)) may ∙ ap (λ (l : List ℕ). old.bytes ++ l) (append-nil r.taken) ∙ r.gives.whole ∙ ap (λ (l : List ℕ). line ++ l) none ∙ append-nil line in
-      ap (reply_within old.room past number) whole ∙ end-reply past number old.room line r.gives.unbroken r.short (omega (arith, r.gives.room))
+      ap (reply_within hears old.room past number) whole ∙ end-reply hears past number old.room line r.gives.unbroken r.short (omega (arith, r.gives.room))
 
   -- in a line that is too long
   pub left-long : (r : Reads before now old new line []) → IsTooLong line new → IsReply from r.taken false (long_reply number)
@@ -100,8 +100,8 @@ module _ (before now : Option (List ℕ)) (old new : Ahead) (line : List ℕ) (p
       = sym (append_assoc old.bytes r.taken more) ∙ ap (λ (l : List ℕ). l ++ more) (r.gives.whole ∙ parts) ∙ append_assoc front rest more in
       let len : length front ≡ length line + long.count
       = length-append line (take long.count new.bytes) ∙ ap (λ (n : ℕ). length line + n) (length-take-le long.count new.bytes long.there) in
-      ap (reply_within old.room past number) whole
-      ∙ long-reply past number old.room front (rest ++ more) (unbroken-append line (take long.count new.bytes) r.gives.unbroken long.unbroken)
+      ap (reply_within hears old.room past number) whole
+      ∙ long-reply hears past number old.room front (rest ++ more) (unbroken-append line (take long.count new.bytes) r.gives.unbroken long.unbroken)
       (omega (arith, long.beyond)) (omega (arith, r.gives.room, long.within))
 
   -- where the room is full
@@ -109,8 +109,8 @@ module _ (before now : Option (List ℕ)) (old new : Ahead) (line : List ℕ) (p
   left-many r full some = λ more may.
       let whole : old.bytes ++ (r.taken ++ more) ≡ line ++ (new.bytes ++ more)
       = sym (append_assoc old.bytes r.taken more) ∙ ap (λ (l : List ℕ). l ++ more) r.gives.whole ∙ append_assoc line new.bytes more in
-      ap (reply_within old.room past number) whole
-      ∙ many-reply past number old.room line (new.bytes ++ more) r.gives.unbroken r.short (omega (arith, r.gives.room)) (omega (arith, length-append new.bytes more))
+      ap (reply_within hears old.room past number) whole
+      ∙ many-reply hears past number old.room line (new.bytes ++ more) r.gives.unbroken r.short (omega (arith, r.gives.room)) (omega (arith, length-append new.bytes more))
 
   -- ---- a turn
 
@@ -121,12 +121,12 @@ module _ (before now : Option (List ℕ)) (old new : Ahead) (line : List ℕ) (p
       = sym (length-append old.bytes r.taken) ∙ ap length r.gives.whole ∙ length-append line (feed ++ new.bytes) ∙ ap (λ (n : ℕ). length line + n) (length-append feed new.bytes) in
       omega (arith, r.gives.room)
 
-  pub turn-line : (out_before out_now : Option (List ℕ)) (server : Kept) (r : Reads before now old new line (10 ∷ [])) → Appends out_before out_now (round_text past number line)
-      → Sits server (behind_round past number line) → GoesOn from before now out_before out_now server new (number + 1)
+  pub turn-line : (out_before out_now : Option (List ℕ)) (server : Kept) (r : Reads before now old new line (10 ∷ [])) → Appends out_before out_now (round_text hears past number line)
+      → Sits server (behind_round hears past number line) → GoesOn from before now out_before out_now server new (number + 1)
   turn-line out_before out_now server r printed sits = record {
     taken = r.taken;
-    text = round_text past number line;
-    past = behind_round past number line;
+    text = round_text hears past number line;
+    past = behind_round hears past number line;
     consumes = r.consumes;
     size = reads-size (10 ∷ []) r;
     printed = printed;
@@ -134,10 +134,10 @@ module _ (before now : Option (List ℕ)) (old new : Ahead) (line : List ℕ) (p
     same = left-line r;
   }
 
-  pub turn-line_stopped : (out_before out_now : Option (List ℕ)) (e : DeskFault) (r : Reads before now old new line (10 ∷ [])) → Prints (round_text past number line) out_before out_now (Err e)
+  pub turn-line_stopped : (out_before out_now : Option (List ℕ)) (e : DeskFault) (r : Reads before now old new line (10 ∷ [])) → Prints (round_text hears past number line) out_before out_now (Err e)
       → Ends from before now out_before out_now (Err e)
   turn-line_stopped out_before out_now e r p =
-      ends-stopped from before now out_before out_now r.taken false (round_text past number line) e (took-some before now r.taken r.consumes) (λ more may. (_, left-line r more)) p
+      ends-stopped from before now out_before out_now r.taken false (round_text hears past number line) e (took-some before now r.taken r.consumes) (λ more may. (_, left-line r more)) p
 
   settles : (out_before out_now : Option (List ℕ)) (status : ℕ) (text : List ℕ) (all : Bool) (r : Reads before now old new line []) → length new.bytes ≤ piece_bytes → Took before now r.taken all
       → (status ≡ 0 → all ≡ true) → IsReply from r.taken all (record { status = status; text = text }) → Appends out_before out_now text → Settles from before now out_before out_now status
@@ -150,16 +150,16 @@ module _ (before now : Option (List ℕ)) (old new : Ahead) (line : List ℕ) (p
     given = λ more may. subst (λ (reply : Reply). IsGiven reply status out_before out_now) (sym (is more may)) (record { status_is = refl; printed = printed });
   }
 
-  pub turn-end : (out_before out_now : Option (List ℕ)) (r : Reads before now old new line []) → IsAtEnd now → new.bytes ≡ [] → Appends out_before out_now (last_text past number line)
+  pub turn-end : (out_before out_now : Option (List ℕ)) (r : Reads before now old new line []) → IsAtEnd now → new.bytes ≡ [] → Appends out_before out_now (last_text hears past number line)
       → Settles from before now out_before out_now 0
   turn-end out_before out_now r ended none printed =
-      settles out_before out_now 0 (last_text past number line) true r (omega (arith, ap length none)) (took-all before now r.taken r.consumes ended) (λ is. refl) (left-end r none) printed
+      settles out_before out_now 0 (last_text hears past number line) true r (omega (arith, ap length none)) (took-all before now r.taken r.consumes ended) (λ is. refl) (left-end r none) printed
 
   pub turn-end_stopped : (out_before out_now : Option (List ℕ)) (e : DeskFault) (r : Reads before now old new line []) → IsAtEnd now → new.bytes ≡ []
-      → Prints (last_text past number line) out_before out_now (Err e) → Ends from before now out_before out_now (Err e)
+      → Prints (last_text hears past number line) out_before out_now (Err e) → Ends from before now out_before out_now (Err e)
   turn-end_stopped out_before out_now e r ended none p =
-      ends-stopped from before now out_before out_now r.taken true (last_text past number line) e (took-all before now r.taken r.consumes ended)
-      (begins-reply from r.taken true 0 (last_text past number line) (left-end r none)) p
+      ends-stopped from before now out_before out_now r.taken true (last_text hears past number line) e (took-all before now r.taken r.consumes ended)
+      (begins-reply from r.taken true 0 (last_text hears past number line) (left-end r none)) p
 
   pub turn-fault : (out_before out_now : Option (List ℕ)) (text : List ℕ) (r : Reads before now old new line []) → length new.bytes ≤ piece_bytes
       → IsReply from r.taken false (record { status = 1; text = text }) → Appends out_before out_now text → Settles from before now out_before out_now 1
@@ -180,8 +180,8 @@ with_text-twice first second reply = ap (told reply.status) (sym (append_assoc f
     told s t = record { status = s; text = t }
 
 -- nothing was read yet
-pub goes_on-begin : (server : Kept) (before out : Option (List ℕ)) → Sits server opened → GoesOn beginning before before out out server (record { bytes = []; room = most_bytes }) 1
-goes_on-begin server before out sits = record {
+pub goes_on-begin : (hears : Hearing) (server : Kept) (before out : Option (List ℕ)) → Sits server opened → GoesOn (beginning hears) before before out out server (record { bytes = []; room = most_bytes }) 1
+goes_on-begin hears server before out sits = record {
   taken = [];
   text = [];
   past = opened;
@@ -195,7 +195,7 @@ goes_on-begin server before out sits = record {
 module _ (from : Place) (before mid now out_before out_mid out_now : Option (List ℕ)) (server : Kept) (ahead : Ahead) (number : ℕ)
     (g : GoesOn from before mid out_before out_mid server ahead number) where
   abbrev here : Place
-  here = record { ahead = ahead; past = g.past; number = number }
+  here = record { hears = from.hears; ahead = ahead; past = g.past; number = number }
 
   -- the reply behind the text that was printed
   reply-behind : (taken more : List ℕ) → left_reply from ((g.taken ++ taken) ++ more) ≡ with_text g.text (left_reply here (taken ++ more))
@@ -211,7 +211,7 @@ module _ (from : Place) (before mid now out_before out_mid out_now : Option (Lis
     size = omega (arith, g.size, h.size, length-append g.taken h.taken);
     printed = Appends-trans out_before out_mid out_now g.text h.text g.printed h.printed;
     sits = h.sits;
-    same = λ more. reply-behind h.taken more ∙ ap (with_text g.text) (h.same more) ∙ with_text-twice g.text h.text (left_reply (record { ahead = ahead'; past = h.past; number = number' }) more);
+    same = λ more. reply-behind h.taken more ∙ ap (with_text g.text) (h.same more) ∙ with_text-twice g.text h.text (left_reply (record { hears = from.hears; ahead = ahead'; past = h.past; number = number' }) more);
   }
 
   took-behind : (taken : List ℕ) (all : Bool) → Took mid now taken all → Took before now (g.taken ++ taken) all
@@ -247,17 +247,17 @@ module _ (from : Place) (before mid now out_before out_mid out_now : Option (Lis
 
 -- ---- what a desk did from its beginning
 
-left-beginning : (bytes : List ℕ) → left_reply beginning bytes ≡ desk_reply bytes
+left-beginning : (hears : Hearing) (bytes : List ℕ) → left_reply (beginning hears) bytes ≡ desk_reply hears bytes
 unfolding desk_reply
-left-beginning bytes = refl
+left-beginning hears bytes = refl
 
 none-follows : (all : Bool) → MayFollow all []
 none-follows true = refl
 none-follows false = tt
 
 -- the reply to what was taken alone
-alone : (taken : List ℕ) → left_reply beginning (taken ++ []) ≡ desk_reply taken
-alone taken = ap (left_reply beginning) (append-nil taken) ∙ left-beginning taken
+alone : (hears : Hearing) (taken : List ℕ) → left_reply (beginning hears) (taken ++ []) ≡ desk_reply hears taken
+alone hears taken = ap (left_reply (beginning hears)) (append-nil taken) ∙ left-beginning hears taken
 
 -- what a source told is what was taken and what may follow
 pub record Told (bytes taken : List ℕ) (all : Bool) : Type 0 where
@@ -277,28 +277,18 @@ told (Some xs) (Some ys) taken all bytes took known =
     subst (λ (l : List ℕ). Told l taken all) same (told-rest all xs ys taken took.consumes took.ended)
 
 -- the reply to what a source told
-told-reply : (bytes taken : List ℕ) (all : Bool) (t : Told bytes taken all) → left_reply beginning (taken ++ t.more) ≡ desk_reply bytes
-told-reply bytes taken all t = left-beginning (taken ++ t.more) ∙ ap desk_reply (sym t.whole)
+told-reply : (hears : Hearing) (bytes taken : List ℕ) (all : Bool) (t : Told bytes taken all) → left_reply (beginning hears) (taken ++ t.more) ≡ desk_reply hears bytes
+told-reply hears bytes taken all t = left-beginning hears (taken ++ t.more) ∙ ap (desk_reply hears) (sym t.whole)
 
-module _ (before now out_before out_now : Option (List ℕ)) where
-  pub settles-done : (status : ℕ) → Settles beginning before now out_before out_now status → (reply : Reply) × RepliesToTaken before now reply × IsGiven reply status out_before out_now
-  settles-done status e =
-      let given : IsGiven (desk_reply e.taken) status out_before out_now = subst (λ (r : Reply). IsGiven r status out_before out_now) (alone e.taken) (e.given [] (none-follows e.all)) in (
-        desk_reply e.taken,
-        record {
-          bytes = e.taken;
-          taken = e.took.consumes;
-          ended = λ is. e.took.ended (e.finished (given.status_is ∙ is));
-          bounded = omega (arith, e.bounded);
-          reply_is = refl;
-        },
-        given,
-      )
+module _ (hears : Hearing) (before now out_before out_now : Option (List ℕ)) where
+  -- the reply of this hearing
+  abbrev reply_to : List ℕ → Reply
+  reply_to bytes = desk_reply hears bytes
 
-  pub settles-exact : (status : ℕ) (bytes : List ℕ) → Settles beginning before now out_before out_now status → before ≡ Some bytes → IsGiven (desk_reply bytes) status out_before out_now
+  settles-exact : (status : ℕ) (bytes : List ℕ) → Settles (beginning hears) before now out_before out_now status → before ≡ Some bytes → IsGiven (reply_to bytes) status out_before out_now
   settles-exact status bytes e known =
       let t = told before now e.taken e.all bytes e.took known in
-      subst (λ (r : Reply). IsGiven r status out_before out_now) (told-reply bytes e.taken e.all t) (e.given t.more t.may)
+      subst (λ (r : Reply). IsGiven r status out_before out_now) (told-reply hears bytes e.taken e.all t) (e.given t.more t.may)
 
   given-front : (reply : Reply) (status : ℕ) → IsGiven reply status out_before out_now → IsFront reply out_before out_now
   given-front reply status g = record {
@@ -307,32 +297,66 @@ module _ (before now out_before out_now : Option (List ℕ)) where
     printed = subst (Appends out_before out_now) (sym (take_all (length reply.text) reply.text (omega arith))) g.printed;
   }
 
-  stops-front : (bytes : List ℕ) → Stops beginning before now out_before out_now → before ≡ Some bytes → IsFront (desk_reply bytes) out_before out_now
+  stops-front : (bytes : List ℕ) → Stops (beginning hears) before now out_before out_now → before ≡ Some bytes → IsFront (reply_to bytes) out_before out_now
   stops-front bytes e known =
       let t = told before now e.taken e.all bytes e.took known in
-      subst (λ (r : Reply). IsFront r out_before out_now) (told-reply bytes e.taken e.all t) (e.front t.more t.may)
+      subst (λ (r : Reply). IsFront r out_before out_now) (told-reply hears bytes e.taken e.all t) (e.front t.more t.may)
 
   cut-front : (reply : Reply) → IsCutShort reply out_before out_now → IsFront reply out_before out_now
   cut-front reply c = record { count = c.count; within = omega (arith, c.within); printed = c.printed }
 
-  pub ends-front : (r : Result ℕ DeskFault) (bytes : List ℕ) → Ends beginning before now out_before out_now r → before ≡ Some bytes → IsFront (desk_reply bytes) out_before out_now
-  ends-front (Ok status) bytes e known = given-front (desk_reply bytes) status (settles-exact status bytes e known)
+  ends-front : (r : Result ℕ DeskFault) (bytes : List ℕ) → Ends (beginning hears) before now out_before out_now r → before ≡ Some bytes → IsFront (reply_to bytes) out_before out_now
+  ends-front (Ok status) bytes e known = given-front (reply_to bytes) status (settles-exact status bytes e known)
   ends-front (Err Memory) bytes e known = stops-front bytes e known
   ends-front (Err Read) bytes e known = stops-front bytes e known
   ends-front (Err Write) bytes e known =
       let t = told before now e.taken e.all bytes e.took known in
-      cut-front (desk_reply bytes) (subst (λ (r : Reply). IsCutShort r out_before out_now) (told-reply bytes e.taken e.all t) (e.cut t.more t.may))
+      cut-front (reply_to bytes) (subst (λ (r : Reply). IsCutShort r out_before out_now) (told-reply hears bytes e.taken e.all t) (e.cut t.more t.may))
 
-  pub stops-begun : Stops beginning before now out_before out_now → DeskBegun before now out_before out_now
-  stops-begun e = record {
-    bytes = e.taken;
-    taken = e.took.consumes;
-    printed = subst (λ (r : Reply). IsFront r out_before out_now) (alone e.taken) (e.front [] (none-follows e.all));
-  }
+  -- the same, where there is a hearing
+  module _ (hearing : IsHearing hears) where
+    replies : (bytes : List ℕ) → RepliesAtDesk bytes (reply_to bytes)
+    replies bytes = record { hears = hears; hearing = hearing; reply_is = refl }
 
-  pub breaks-broken : Breaks beginning before now out_before out_now → DeskBroken before now out_before out_now
-  breaks-broken e = record {
-    bytes = e.taken;
-    taken = e.took.consumes;
-    printed = subst (λ (r : Reply). IsCutShort r out_before out_now) (alone e.taken) (e.cut [] (none-follows e.all));
-  }
+    pub settles-done : (status : ℕ) → Settles (beginning hears) before now out_before out_now status → (reply : Reply) × RepliesToTaken before now reply × IsGiven reply status out_before out_now
+    settles-done status e =
+        let given : IsGiven (reply_to e.taken) status out_before out_now = subst (λ (r : Reply). IsGiven r status out_before out_now) (alone hears e.taken) (e.given [] (none-follows e.all)) in (
+          reply_to e.taken,
+          record {
+            bytes = e.taken;
+            taken = e.took.consumes;
+            ended = λ is. e.took.ended (e.finished (given.status_is ∙ is));
+            bounded = omega (arith, e.bounded);
+            replies = replies e.taken;
+          },
+          given,
+        )
+
+    pub stops-begun : Stops (beginning hears) before now out_before out_now → DeskBegun before now out_before out_now
+    stops-begun e = record {
+      bytes = e.taken;
+      taken = e.took.consumes;
+      reply = reply_to e.taken;
+      replies = replies e.taken;
+      printed = subst (λ (r : Reply). IsFront r out_before out_now) (alone hears e.taken) (e.front [] (none-follows e.all));
+    }
+
+    pub breaks-broken : Breaks (beginning hears) before now out_before out_now → DeskBroken before now out_before out_now
+    breaks-broken e = record {
+      bytes = e.taken;
+      taken = e.took.consumes;
+      reply = reply_to e.taken;
+      replies = replies e.taken;
+      printed = subst (λ (r : Reply). IsCutShort r out_before out_now) (alone hears e.taken) (e.cut [] (none-follows e.all));
+    }
+
+-- every reply is that of its hearing
+pub replies-exact : (before now out_before out_now : Option (List ℕ)) (status : ℕ) (bytes : List ℕ) (reply : Reply) → RepliesAtDesk bytes reply
+    → ((hears : Hearing) → IsHearing hears → Ends (beginning hears) before now out_before out_now (Ok status)) → before ≡ Some bytes → IsGiven reply status out_before out_now
+replies-exact before now out_before out_now status bytes reply r ends known =
+    subst (λ (x : Reply). IsGiven x status out_before out_now) (sym r.reply_is) (settles-exact r.hears before now out_before out_now status bytes (ends r.hears r.hearing) known)
+
+pub replies-front : (before now out_before out_now : Option (List ℕ)) (end : Result ℕ DeskFault) (bytes : List ℕ) (reply : Reply) → RepliesAtDesk bytes reply
+    → ((hears : Hearing) → IsHearing hears → Ends (beginning hears) before now out_before out_now end) → before ≡ Some bytes → IsFront reply out_before out_now
+replies-front before now out_before out_now end bytes reply r ends known =
+    subst (λ (x : Reply). IsFront x out_before out_now) (sym r.reply_is) (ends-front r.hears before now out_before out_now end bytes (ends r.hears r.hearing) known)

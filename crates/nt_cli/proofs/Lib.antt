@@ -7,6 +7,9 @@ pub mod LineFeeds
 pub mod Rounds
 pub mod LineReads
 pub mod Printing
+pub mod Hexadecimals
+pub mod Hearings
+pub mod FrameLines
 pub mod DeskSteps
 pub mod Endings
 pub mod Turns

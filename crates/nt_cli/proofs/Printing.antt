@@ -5,8 +5,8 @@ use Rattle.std.proofs.lemmas.List.{take-append-le, take_all}
 use Rattle.std.specs.Result.{OnOk}
 use Rattle.std.specs.Io.KnownBytes.{Appends}
 use Rattle.std.proofs.KnownBytes.{Appends-nil, Appends-trans}
-use Rattle.nt_cli.specs.declared.desk.DeskFault.{DeskFault}
-use Rattle.nt_cli.specs.declared.desk.DeskFault.TheVariants.{Memory, Read, Write}
+use Rattle.nt_cli.specs.declared.desk_output.DeskFault.{DeskFault}
+use Rattle.nt_cli.specs.declared.desk_output.DeskFault.TheVariants.{Memory, Read, Write}
 use Rattle.nt_cli.specs.Reply.{Reply, IsGiven, IsFront, IsCutShort}
 use Rattle.nt_cli.specs.Desk.{with_text}
 use Rattle.nt_cli.specs.DeskRun.{printing, Prints}

@@ -7,7 +7,7 @@ use Rattle.nt_server.specs.declared.act.Entry.{Entry}
 use Rattle.nt_cli.specs.Lines.{too_long}
 use Rattle.nt_cli.specs.LineReading.{most_line, IsUnbroken}
 use Rattle.nt_cli.specs.Reply.{Reply}
-use Rattle.nt_cli.specs.Desk.{is_empty, whole_lines, last_line, line_fault, round_text, last_text, behind_round, with_text, last_reply, lines_reply, reply_within}
+use Rattle.nt_cli.specs.Desk.{Hearing, is_empty, whole_lines, last_line, line_fault, round_text, last_text, behind_round, with_text, last_reply, lines_reply, reply_within}
 use Rattle.nt_cli.proofs.LineFeeds.{all_in_front, whole_lines-append, last_line-append, whole_lines-unbroken, last_line-unbroken}
 
 -- the replies that end a desk
@@ -17,8 +17,8 @@ long_reply number = record { status = 1; text = line_fault number }
 abbrev pub many_reply : Reply
 many_reply = record { status = 1; text = too_long }
 
-abbrev pub end_reply : List Entry → ℕ → List ℕ → Reply
-end_reply past number last = record { status = 0; text = last_text past number last }
+abbrev pub end_reply : Hearing → List Entry → ℕ → List ℕ → Reply
+end_reply hears past number last = record { status = 0; text = last_text hears past number last }
 
 same-test : (a b c d : ℕ) → (a < b → c < d) → (b ≤ a → d ≤ c) → nat_lt a b ≡ nat_lt c d
 same-test a b c d below above = elim (cases_lt a b) [ inl lt ↦ lt-ltb a b lt ∙ sym (lt-ltb c d (below lt)) | inr le ↦ le-ltb a b le ∙ sym (le-ltb c d (above le)) ]
@@ -27,10 +27,10 @@ taken-front : (room left : ℕ) (front more : List ℕ) → room ≡ length fron
 taken-front room left front more room_is = ap (λ (r : ℕ). take r (front ++ more)) room_is ∙ take-append-add front more left
 
 -- a whole line is answered by its round, and the rest behind it
-pub line-reply : (past : List Entry) (number room left : ℕ) (line rest : List ℕ) → IsUnbroken line → length line ≤ most_line → room ≡ length line + (1 + left)
-    → reply_within room past number (line ++ 10 ∷ rest) ≡ with_text (round_text past number line) (reply_within left (behind_round past number line) (number + 1) rest)
+pub line-reply : (hears : Hearing) (past : List Entry) (number room left : ℕ) (line rest : List ℕ) → IsUnbroken line → length line ≤ most_line → room ≡ length line + (1 + left)
+    → reply_within hears room past number (line ++ 10 ∷ rest) ≡ with_text (round_text hears past number line) (reply_within hears left (behind_round hears past number line) (number + 1) rest)
 unfolding reply_within
-line-reply past number room left line rest whole short room_is =
+line-reply hears past number room left line rest whole short room_is =
     let more : 1 + left ≡ suc left = omega arith in
     let taken : take room (line ++ 10 ∷ rest) ≡ line ++ 10 ∷ take left rest = taken-front room (1 + left) line (10 ∷ rest) room_is ∙ rw more refl in
     let lines : whole_lines (line ++ 10 ∷ take left rest) ≡ line ∷ whole_lines (take left rest)
@@ -41,40 +41,40 @@ line-reply past number room left line rest whole short room_is =
     let fits : nat_lt most_line (length line) ≡ false = le-ltb most_line (length line) short in
     rw (taken, lines, last, beyond, fits) refl
 
-long-lines : (past : List Entry) (number : ℕ) (front xs : List ℕ) (beyond : Bool) → IsUnbroken front → most_line < length front
-    → lines_reply past number (whole_lines (front ++ xs)) (last_line (front ++ xs)) beyond ≡ long_reply number
-long-lines past number front xs beyond whole long = rw (whole_lines-append front xs whole, last_line-append front xs whole) (by (whole_lines xs))
+long-lines : (hears : Hearing) (past : List Entry) (number : ℕ) (front xs : List ℕ) (beyond : Bool) → IsUnbroken front → most_line < length front
+    → lines_reply hears past number (whole_lines (front ++ xs)) (last_line (front ++ xs)) beyond ≡ long_reply number
+long-lines hears past number front xs beyond whole long = rw (whole_lines-append front xs whole, last_line-append front xs whole) (by (whole_lines xs))
   where
     too_many : (ys : List ℕ) → nat_lt most_line (length (front ++ ys)) ≡ true
     too_many ys = lt-ltb most_line (length (front ++ ys)) (omega (arith, length-append front ys))
 
-    by : (lines : List (List ℕ)) → lines_reply past number (all_in_front front lines) (cond (is_empty lines) (front ++ xs) (last_line xs)) beyond ≡ long_reply number
+    by : (lines : List (List ℕ)) → lines_reply hears past number (all_in_front front lines) (cond (is_empty lines) (front ++ xs) (last_line xs)) beyond ≡ long_reply number
     by [] = rw (too_many xs) refl
     by (line ∷ lines) = rw (too_many line) refl
 
 -- so many bytes without a line feed that they are no line end the desk, whatever follows
-pub long-reply : (past : List Entry) (number room : ℕ) (front more : List ℕ) → IsUnbroken front → most_line < length front → length front ≤ room
-    → reply_within room past number (front ++ more) ≡ long_reply number
+pub long-reply : (hears : Hearing) (past : List Entry) (number room : ℕ) (front more : List ℕ) → IsUnbroken front → most_line < length front → length front ≤ room
+    → reply_within hears room past number (front ++ more) ≡ long_reply number
 unfolding reply_within
-long-reply past number room front more whole long within =
+long-reply hears past number room front more whole long within =
     let taken : take room (front ++ more) ≡ front ++ take (room - length front) more = taken-front room (room - length front) front more (omega arith) in
-    rw taken (long-lines past number front (take (room - length front) more) _ whole long)
+    rw taken (long-lines hears past number front (take (room - length front) more) _ whole long)
 
 -- bytes behind the room end the desk, where no line ends within it
-pub many-reply : (past : List Entry) (number room : ℕ) (front more : List ℕ) → IsUnbroken front → length front ≤ most_line → room ≡ length front → 0 < length more
-    → reply_within room past number (front ++ more) ≡ many_reply
+pub many-reply : (hears : Hearing) (past : List Entry) (number room : ℕ) (front more : List ℕ) → IsUnbroken front → length front ≤ most_line → room ≡ length front → 0 < length more
+    → reply_within hears room past number (front ++ more) ≡ many_reply
 unfolding reply_within
-many-reply past number room front more whole short room_is some =
+many-reply hears past number room front more whole short room_is some =
     let taken : take room (front ++ more) ≡ front = rw room_is (take-append_seam front more) in
     let fits : nat_lt most_line (length front) ≡ false = le-ltb most_line (length front) short in
     let beyond : nat_lt room (length (front ++ more)) ≡ true = lt-ltb room (length (front ++ more)) (omega (arith, length-append front more)) in
     rw (taken, whole_lines-unbroken front whole, last_line-unbroken front whole, fits, beyond) refl
 
 -- the end of the input behind bytes without a line feed
-pub end-reply : (past : List Entry) (number room : ℕ) (last : List ℕ) → IsUnbroken last → length last ≤ most_line → length last ≤ room
-    → reply_within room past number last ≡ end_reply past number last
+pub end-reply : (hears : Hearing) (past : List Entry) (number room : ℕ) (last : List ℕ) → IsUnbroken last → length last ≤ most_line → length last ≤ room
+    → reply_within hears room past number last ≡ end_reply hears past number last
 unfolding reply_within
-end-reply past number room last whole short within =
+end-reply hears past number room last whole short within =
     let taken : take room last ≡ last = take_all room last within in
     let fits : nat_lt most_line (length last) ≡ false = le-ltb most_line (length last) short in
     let beyond : nat_lt room (length last) ≡ false = le-ltb room (length last) within in

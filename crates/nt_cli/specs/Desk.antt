@@ -1,23 +1,32 @@
 -- The desk: one connection on one thread, which says the lines of its input, and is handed what it is owed after each.
-use Rattle.std.specs.Prelude.{◌≡◌, ◌≤◌, ℕ, zero, suc, Bool, true, false, nat_lt, ◌+◌, max, List, [], ◌∷◌, ◌++◌, length, take, codes, if◌then◌else◌}
+use Rattle.std.specs.Prelude.{◌≡◌, ◌≤◌, ℕ, zero, suc, negsuc, Bool, true, false, nat_lt, ◌+◌, List, [], ◌∷◌, ◌++◌, map, length, take, codes, is_none, if◌then◌else◌}
+use Rattle.std.specs.List.{filter_map, flat_map}
+use Rattle.std.specs.Ordering.{int_eq}
 use Rattle.std.specs.declared.option.Option.{Option}
+use Rattle.std.specs.declared.option.Option.TheVariants.{Some, None}
 use Rattle.std.specs.Io.KnownBytes.{Consumes, IsAtEnd}
 use Rattle.std.specs.Fmt.{decimal}
-use Rattle.nt_control.specs.declared.message.ClientMsg.{ClientMsg}
-use Rattle.nt_control.specs.declared.message.ClientMsg.TheVariants.{Publish}
-use Rattle.nt_control.specs.declared.message.ServerMsg.{ServerMsg}
-use Rattle.nt_control.specs.Frame.{said_in, server_text}
+use Rattle.nt_link.specs.declared.frame.Frame.{Frame}
+use Rattle.nt_link.specs.declared.frame.Frame.TheVariants as frames
+use Rattle.nt_frames.specs.declared.message.ValueMsg.{ValueMsg}
+use Rattle.nt_frames.specs.declared.message.FrameFault.{FrameFault}
+use Rattle.nt_frames.specs.Frames.{Means}
+use Rattle.nt_control.specs.Frame.{said_in}
+use Rattle.nt_session.specs.Laid.{frames_in, clock_frame}
+use Rattle.nt_outbox.specs.declared.batch.Batch.{Batch}
 use Rattle.nt_server.specs.declared.act.Act.{Act}
 use Rattle.nt_server.specs.declared.act.Act.TheVariants as act
-use Rattle.nt_server.specs.declared.act.Msg.TheVariants.{Control}
+use Rattle.nt_server.specs.declared.act.Msg.{Msg}
+use Rattle.nt_server.specs.declared.act.Msg.TheVariants.{Control, Put}
 use Rattle.nt_server.specs.declared.act.Entry.{Entry}
-use Rattle.nt_server.specs.Handed.{Handed}
 use Rattle.nt_server.specs.Now.{Start, now_of}
+use Rattle.nt_server.specs.Metas.{all_lives}
 use Rattle.nt_server.specs.Owed.{owed, messages}
-use Rattle.nt_server.specs.Answer.{answer, entry}
+use Rattle.nt_server.specs.Answer.{answer, entry, moment_of}
 use Rattle.nt_cli.specs.Input.{most_bytes, piece_bytes}
 use Rattle.nt_cli.specs.Lines.{too_long}
 use Rattle.nt_cli.specs.LineReading.{most_line, is_feed}
+use Rattle.nt_cli.specs.Hexadecimal.{is_binary, digits_in, hex_bytes, hex_line}
 use Rattle.nt_cli.specs.Reply.{Reply, IsFront, IsCutShort}
 
 -- whether a list has no item
@@ -49,10 +58,33 @@ last_line (b ∷ bytes) =
 unfoldable pub line_fault : ℕ → List ℕ
 line_fault number = codes "fault line " ++ (decimal number ++ codes "\n")
 
+-- ---- what a line says
+
+-- how binary frames are heard: the messages of each, up to its first fault. Frames have one meaning, so that there is one hearing
+abbrev pub Hearing : Type 0
+Hearing = List ℕ → List ValueMsg
+
+-- the greatest size of a value that is taken
+abbrev pub most_value : ℕ
+most_value = 131_072
+
+abbrev pub IsHearing : Hearing → Type 0
+IsHearing hears = (bytes : List ℕ) → (fault : Option FrameFault) × Means most_value bytes (hears bytes) fault
+
+-- the values of a binary frame, and none where its line isn't spelled as one
+abbrev pub values_in : Hearing → Option (List ℕ) → List ValueMsg
+values_in hears None = []
+values_in hears (Some bytes) = hears bytes
+
+-- the messages of a line, which is a text frame or a binary one
+unfoldable pub says : Hearing → List ℕ → List Msg
+says hears line =
+    if is_binary line then map Put (values_in hears (hex_bytes (digits_in line))) else map Control (said_in line)
+
 -- ---- the history: one worker with one connection, named `desk`
 
 abbrev pub start : Start
-start = record { permits = 0 }
+start = record { permits = 0; saved = [] }
 
 -- the worker and its connection
 abbrev pub worker : ℕ
@@ -63,23 +95,26 @@ conn = 1
 
 -- the history with an act that was answered, at this moment or at that of the last entry, if that is later
 unfoldable pub with_act : List Entry → ℕ → Act → List Entry
-with_act past now a = entry worker (max (now_of start past).moment now) a (answer start past worker a) ∷ past
+with_act past now a = entry worker (moment_of (now_of start past) now) a (answer start past worker now a) ∷ past
 
 -- the connection opens at moment 0
 unfoldable pub opened : List Entry
 opened = with_act [] 0 (act.Open (codes "desk"))
 
--- the messages that the desk hands on to the table: a publish alone so far. It passes the others over
-abbrev pub is_handed_on : ClientMsg → Bool
-is_handed_on (Publish name uid typ props) = true
-is_handed_on m = false
+-- a question for the server's time, which is a value with the id -1, is answered at once, with this time
+abbrev pub answer_to : ℕ → Msg → Option Frame
+answer_to now (Put v) = if int_eq v.id (negsuc 0) then Some (clock_frame v now) else None
+answer_to now (Control m) = None
 
--- the history with a message said, if it is handed on
-unfoldable pub with_message : List Entry → ℕ → ClientMsg → List Entry
-with_message past now m = if is_handed_on m then with_act past now (act.Said conn (Control m)) else past
+abbrev pub answers_to : ℕ → List Msg → List Frame
+answers_to now msgs = filter_map (answer_to now) msgs
+
+-- the history with a message said. A question is no part of it
+unfoldable pub with_message : List Entry → ℕ → Msg → List Entry
+with_message past now m = if is_none (answer_to now m) then with_act past now (act.Said conn m) else past
 
 -- the history with each of these messages in turn
-unfoldable pub with_said : List Entry → ℕ → List ClientMsg → List Entry
+unfoldable pub with_said : List Entry → ℕ → List Msg → List Entry
 with_said past now [] = past
 with_said past now (m ∷ msgs) = with_said (with_message past now m) now msgs
 
@@ -92,20 +127,32 @@ unfoldable pub with_drain : List Entry → ℕ → List Entry
 with_drain past now = with_act past now (act.Drain conn budget)
 
 -- the next batch that a drain hands
-unfoldable pub batch : List Entry → Handed
-batch past = messages (now_of start past) (take budget (owed start past conn))
+unfoldable pub batch : List Entry → ℕ → Batch
+batch past now =
+    messages (all_lives start past) (moment_of (now_of start past) now) conn (take budget (owed start past conn))
 
--- a frame of these messages, as a line
-abbrev pub frame_line : List ServerMsg → List ℕ
-frame_line msgs = server_text msgs ++ codes "\n"
+-- a frame as a line
+abbrev pub frame_line : Frame → List ℕ
+frame_line (frames.Text text) = text ++ codes "\n"
+frame_line (frames.Binary bytes) = hex_line bytes
 
--- what is drained until nothing is owed: a batch after another, each a frame and a line. One drain hands at least one message,
--- so there are no more drains than messages are owed
+abbrev pub lines_of : List Frame → List ℕ
+lines_of fs = flat_map frame_line fs
+
+-- the frames of a batch, as lines
+abbrev pub batch_lines : Batch → List ℕ
+batch_lines b = lines_of (frames_in b.texts b.values)
+
+-- more drains than ever come: one hands at least one message
+abbrev pub most_drains : ℕ
+most_drains = 18_446_744_073_709_551_615
+
+-- what is drained until nothing is owed, batch after batch, by at most so many drains
 unfoldable pub drained : ℕ → List Entry → ℕ → List ℕ
 drained zero past now = []
 drained (suc k) past now =
     if is_empty (owed start past conn) then []
-    else frame_line (batch past).texts ++ drained k (with_drain past now) now
+    else batch_lines (batch past now) ++ drained k (with_drain past now) now
 
 -- and the history behind it
 unfoldable pub behind_drains : ℕ → List Entry → ℕ → List Entry
@@ -113,15 +160,17 @@ behind_drains zero past now = past
 behind_drains (suc k) past now =
     if is_empty (owed start past conn) then past else behind_drains k (with_drain past now) now
 
--- ---- rounds: a line is said at the moment of its number, and then what is owed is drained
+-- ---- rounds: a line is said at the moment of its number, which is the time that its questions are answered with, and then
+-- what is owed is drained
 
-unfoldable pub round_text : List Entry → ℕ → List ℕ → List ℕ
-round_text past number line =
-    let said = with_said past number (said_in line) in drained (length (owed start said conn)) said number
+unfoldable pub round_text : Hearing → List Entry → ℕ → List ℕ → List ℕ
+round_text hears past number line =
+    let msgs = says hears line in
+    lines_of (answers_to number msgs) ++ drained most_drains (with_said past number msgs) number
 
-unfoldable pub behind_round : List Entry → ℕ → List ℕ → List Entry
-behind_round past number line =
-    let said = with_said past number (said_in line) in behind_drains (length (owed start said conn)) said number
+unfoldable pub behind_round : Hearing → List Entry → ℕ → List ℕ → List Entry
+behind_round hears past number line =
+    behind_drains most_drains (with_said past number (says hears line)) number
 
 -- ---- the reply
 
@@ -130,32 +179,40 @@ abbrev pub with_text : List ℕ → Reply → Reply
 with_text text reply = record reply { text = text ++ reply.text }
 
 -- what is printed for what is behind the last line feed: nothing, where that is no line
-abbrev pub last_text : List Entry → ℕ → List ℕ → List ℕ
-last_text past number last = if is_empty last then [] else round_text past number last
+abbrev pub last_text : Hearing → List Entry → ℕ → List ℕ → List ℕ
+last_text hears past number last = if is_empty last then [] else round_text hears past number last
 
 -- the reply at the end of the input, behind its whole lines: to what is behind the last line feed, if that is a line
 -- and the input isn't past the limit
-abbrev pub last_reply : List Entry → ℕ → List ℕ → Bool → Reply
-last_reply past number last beyond =
+abbrev pub last_reply : Hearing → List Entry → ℕ → List ℕ → Bool → Reply
+last_reply hears past number last beyond =
     if nat_lt most_line (length last) then record { status = 1; text = line_fault number }
     else if beyond then record { status = 1; text = too_long }
-    else record { status = 0; text = last_text past number last }
+    else record { status = 0; text = last_text hears past number last }
 
 -- the reply to whole lines from a number on, and to what is behind them, up to the first line that is too long
-abbrev pub lines_reply : List Entry → ℕ → List (List ℕ) → List ℕ → Bool → Reply
-lines_reply past number [] last beyond = last_reply past number last beyond
-lines_reply past number (line ∷ lines) last beyond =
+abbrev pub lines_reply : Hearing → List Entry → ℕ → List (List ℕ) → List ℕ → Bool → Reply
+lines_reply hears past number [] last beyond = last_reply hears past number last beyond
+lines_reply hears past number (line ∷ lines) last beyond =
     if nat_lt most_line (length line) then record { status = 1; text = line_fault number }
-    else with_text (round_text past number line) (lines_reply (behind_round past number line) (number + 1) lines last beyond)
+    else with_text (round_text hears past number line)
+    (lines_reply hears (behind_round hears past number line) (number + 1) lines last beyond)
 
 -- the reply to the bytes from a line on, of which so many may be read
-unfoldable pub reply_within : ℕ → List Entry → ℕ → List ℕ → Reply
-reply_within room past number bytes =
-    lines_reply past number (whole_lines (take room bytes)) (last_line (take room bytes)) (nat_lt room (length bytes))
+unfoldable pub reply_within : Hearing → ℕ → List Entry → ℕ → List ℕ → Reply
+reply_within hears room past number bytes =
+    lines_reply hears past number (whole_lines (take room bytes)) (last_line (take room bytes))
+    (nat_lt room (length bytes))
 
 -- the reply of the desk to a source that has these bytes left
-unfoldable pub desk_reply : List ℕ → Reply
-desk_reply bytes = reply_within most_bytes opened 1 bytes
+unfoldable pub desk_reply : Hearing → List ℕ → Reply
+desk_reply hears bytes = reply_within hears most_bytes opened 1 bytes
+
+-- the desk replies so to these bytes
+pub record RepliesAtDesk (bytes : List ℕ) (reply : Reply) : Type 0 where
+  pub hears : Hearing
+  pub hearing : IsHearing hears
+  pub reply_is : reply ≡ desk_reply hears bytes
 
 -- ---- what a desk took of its source, and what stands printed when it stops
 
@@ -166,16 +223,20 @@ pub record RepliesToTaken (before now : Option (List ℕ)) (reply : Reply) : Typ
   pub taken : Consumes before now bytes
   pub ended : reply.status ≡ 0 → IsAtEnd now
   pub bounded : length bytes ≤ most_bytes + piece_bytes
-  pub reply_is : reply ≡ desk_reply bytes
+  pub replies : RepliesAtDesk bytes reply
 
 -- a front of the reply to the bytes that were taken was printed
 pub record DeskBegun (before now out_before out_now : Option (List ℕ)) : Type 0 where
   pub bytes : List ℕ
   pub taken : Consumes before now bytes
-  pub printed : IsFront (desk_reply bytes) out_before out_now
+  pub reply : Reply
+  pub replies : RepliesAtDesk bytes reply
+  pub printed : IsFront reply out_before out_now
 
 -- printing stopped in the midst of the reply to the bytes that were taken
 pub record DeskBroken (before now out_before out_now : Option (List ℕ)) : Type 0 where
   pub bytes : List ℕ
   pub taken : Consumes before now bytes
-  pub printed : IsCutShort (desk_reply bytes) out_before out_now
+  pub reply : Reply
+  pub replies : RepliesAtDesk bytes reply
+  pub printed : IsCutShort reply out_before out_now

@@ -2,19 +2,19 @@
 use Rattle.std.specs.Prelude.{◌≡◌, ◌≤◌, ℕ, ◌+◌, Bool, true, false, List, [], ◌++◌, length, Result, Ok, Err, Option, None, Some}
 use Rattle.std.specs.Io.KnownBytes.{Consumes, IsAtEnd, Appends}
 use Rattle.nt_server.specs.declared.act.Entry.{Entry}
-use Rattle.nt_server.specs.Now.{now_of, is_open}
+use Rattle.nt_server.specs.Now.{now_of, is_open_for}
 use Rattle.nt_server.specs.Step.{Kept, Stands}
-use Rattle.nt_cli.specs.declared.desk.DeskFault.{DeskFault}
-use Rattle.nt_cli.specs.declared.desk.DeskFault.TheVariants.{Memory, Read, Write}
+use Rattle.nt_cli.specs.declared.desk_output.DeskFault.{DeskFault}
+use Rattle.nt_cli.specs.declared.desk_output.DeskFault.TheVariants.{Memory, Read, Write}
 use Rattle.nt_cli.specs.LineReading.{Ahead}
 use Rattle.nt_cli.specs.Reply.{Reply, IsGiven, IsFront, IsCutShort}
 use Rattle.nt_cli.specs.Input.{most_bytes, piece_bytes}
-use Rattle.nt_cli.specs.Desk.{start, worker, conn, opened, with_text, reply_within}
+use Rattle.nt_cli.specs.Desk.{Hearing, start, worker, conn, opened, with_text, reply_within}
 
 -- the table stands for a history in which the desk's connection is open
 pub record Sits (server : Kept) (past : List Entry) : Type 0 where
   pub stands : Stands server start past
-  pub is_there : is_open (now_of start past).conns worker conn ≡ true
+  pub is_there : is_open_for (now_of start past).connections worker conn ≡ true
 
 -- ---- printing a text
 
@@ -43,19 +43,20 @@ MayFollow false more = Unit {0}
 
 -- ---- a desk in the midst of its work
 
--- where a desk stands: what is ahead of its lines, its history, and the number of the next line
+-- where a desk stands: how frames are heard, what is ahead of its lines, its history, and the number of the next line
 pub record Place : Type 0 where
+  pub hears : Hearing
   pub ahead : Ahead
   pub past : List Entry
   pub number : ℕ
 
 -- the reply that is still to be given, where these bytes are taken from here on
 abbrev pub left_reply : Place → List ℕ → Reply
-left_reply from bytes = reply_within from.ahead.room from.past from.number (from.ahead.bytes ++ bytes)
+left_reply from bytes = reply_within from.hears from.ahead.room from.past from.number (from.ahead.bytes ++ bytes)
 
 -- where a desk begins
-abbrev pub beginning : Place
-beginning = record { ahead = record { bytes = []; room = most_bytes }; past = opened; number = 1 }
+abbrev pub beginning : Hearing → Place
+beginning hears = record { hears = hears; ahead = record { bytes = []; room = most_bytes }; past = opened; number = 1 }
 
 -- ---- how it ends
 
@@ -100,7 +101,7 @@ pub record GoesOn (from : Place) (before now out_before out_now : Option (List �
   pub size : length from.ahead.bytes + length taken + ahead.room ≡ from.ahead.room + length ahead.bytes
   pub printed : Appends out_before out_now text
   pub sits : Sits server past
-  pub same : (more : List ℕ) → left_reply from (taken ++ more) ≡ with_text text (left_reply (record { ahead = ahead; past = past; number = number }) more)
+  pub same : (more : List ℕ) → left_reply from (taken ++ more) ≡ with_text text (left_reply (record { hears = from.hears; ahead = ahead; past = past; number = number }) more)
 
 -- a line was read and answered, or the desk ended
 abbrev pub Turns : Place → Option (List ℕ) → Option (List ℕ) → Option (List ℕ) → Option (List ℕ) → Kept → Ahead → ℕ → Result (Option ℕ) DeskFault → Type 0

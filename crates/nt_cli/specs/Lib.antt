@@ -4,6 +4,7 @@ pub mod Lines
 pub mod ItemLines
 pub mod Reply
 pub mod LineReading
+pub mod Hexadecimal
 pub mod Desk
 pub mod DeskRun
 pub mod Tool

@@ -13,7 +13,7 @@ use Rattle.nt_cli.specs.Words.{tool_of}
 use Rattle.nt_cli.specs.Input.{most_bytes, piece_bytes}
 use Rattle.nt_cli.specs.Lines.{summary, fault_line, too_long, usage}
 use Rattle.nt_cli.specs.ItemLines.{placed_lines}
-use Rattle.nt_cli.specs.Desk.{desk_reply, RepliesToTaken, DeskBegun, DeskBroken}
+use Rattle.nt_cli.specs.Desk.{RepliesAtDesk, RepliesToTaken, DeskBegun, DeskBroken}
 
 -- ---- what the tools that read a log reply to the bytes of their source
 
@@ -75,7 +75,7 @@ usage_reply = record { status = 2; text = usage }
 abbrev pub RepliesBy : Option Tool → List ℕ → Reply → Type 0
 RepliesBy None bytes reply = reply ≡ usage_reply
 RepliesBy (Some (Log tool)) bytes reply = IsReply tool bytes reply
-RepliesBy (Some Desk) bytes reply = reply ≡ desk_reply bytes
+RepliesBy (Some Desk) bytes reply = RepliesAtDesk bytes reply
 
 -- the reply to these words where the source has these bytes left
 abbrev pub Replies : List (List ℕ) → List ℕ → Reply → Type 0

@@ -3,6 +3,9 @@
 
 mod check;
 mod desk;
+mod desk_output;
+mod heard;
+mod hexadecimal;
 mod input;
 mod item_line;
 mod laws;
@@ -10,6 +13,7 @@ mod line;
 mod output;
 mod piece;
 mod reply;
+mod round;
 mod show;
 mod tool;
 mod words;

@@ -1,8 +1,12 @@
-pub mod Handed
 pub mod Lives
 pub mod Now
+pub mod Metas
 pub mod Owed
 pub mod Answer
-pub mod Known
+pub mod Marks
 pub mod State
 pub mod Step
+pub mod Rows
+pub mod View
+pub mod Saved
+pub mod Changes

@@ -1,105 +1,146 @@
--- The life of a topic: what the entries that count did to it.
-use Rattle.std.specs.Prelude.{ℕ, ℤ, Bool, List, [], ◌∷◌, ◌++◌, Option, Some, None, map, length, count_by, ◌&&◌, ◌==◌, ◌+◌, nat_le, nat_lt, bytes_eq, if◌then◌else◌}
-use Rattle.std.specs.List.{list_any}
-use Rattle.std.specs.Ordering.{int_eq}
-use Rattle.serde_json.specs.Written.{compact_text}
-use Rattle.nt_topics.specs.Names.{is_special}
-use Rattle.nt_topics.specs.declared.properties.Props.{Props}
-use Rattle.nt_server.specs.declared.topic.Pub.{Pub}
-use Rattle.nt_server.specs.declared.topic.Topic.{Topic}
-use Rattle.nt_server.specs.declared.act.Cause.{Cause}
-use Rattle.nt_server.specs.declared.act.Cause.TheVariants.{Special, UidInUse, PubsFull, PropsFull, TopicsFull, IdsSpent}
+-- The life of a client topic: what the entries that count did to it (NetworkTables 4.1, "Published Topics" and
+-- "Properties").
+use Rattle.std.specs.Prelude.{ℕ, ℤ, Bool, List, [], ◌∷◌, ◌++◌, Option, Some, None, is_none, option_map, filter, not, ◌&&◌, ◌+◌, if◌then◌else◌}
+use Rattle.std.specs.List.{filter_map}
+use Rattle.serde_json.specs.Data.{Data}
+use Rattle.nt_values.specs.declared.value.Value.{Value}
+use Rattle.nt_topics.specs.Properties.{updated}
+use Rattle.nt_table.specs.declared.topic.Pub.{Pub}
+use Rattle.nt_table.specs.declared.topic.Topic.{Topic}
+use Rattle.nt_table.specs.declared.topic.Saved.{Saved}
+use Rattle.nt_table.specs.Puts.{Put, greatest, taken, timed}
+use Rattle.nt_table.specs.Topics.{lives_on, is_publisher, is_of, has_conn}
 
--- a life: the topic's id, name, type and properties, its publishers, and the place at which it was born
+-- a publish that counted: the place of its entry, the connection and the uid
+pub record Publishing : Type 0 where
+  pub place : ℕ
+  pub conn : ℕ
+  pub uid : ℤ
+
+-- a change of properties that counted
+pub record Setting : Type 0 where
+  pub place : ℕ
+  pub conn : ℕ
+  pub update : Data
+
+-- a life. Its publishings and settings stand oldest first, its puts newest first
 pub record Life : Type 0 where
   pub id : ℕ
   pub name : List ℕ
   pub typ : List ℕ
-  pub props : Props
+  pub props : Data
   pub pubs : List Pub
-  pub born : ℕ
+  pub over : Option ℕ
+  pub publishings : List Publishing
+  pub settings : List Setting
+  pub puts : List Put
+
+-- the held put: the greatest by time, and then by place
+abbrev pub held_of : Life → Option Put
+held_of l = greatest l.puts
+
+-- the puts that were taken, newest first
+abbrev pub taken_of : Life → List Put
+taken_of l = taken l.puts
+
+abbrev pub is_living : Life → Bool
+is_living l = is_none l.over
 
 -- the topic as it is now
 abbrev pub topic_of : Life → Topic
-topic_of l = record { id = l.id; name = l.name; typ = l.typ; props = l.props; pubs = l.pubs }
+topic_of l =
+    record { id = l.id; name = l.name; typ = l.typ; props = l.props; value = option_map timed (held_of l); pubs = l.pubs }
+
+-- the topic of a life that goes on
+abbrev pub seen : Life → Option Topic
+seen l = if is_living l then Some (topic_of l) else None
 
 -- the living topics, by rising id
 abbrev pub topics : List Life → List Topic
-topics lives = map topic_of lives
+topics lives = filter_map seen lives
 
--- ---- tests
-
--- the publisher of this connection with this uid
-abbrev pub is_pub : ℕ → ℤ → Pub → Bool
-is_pub conn uid p = (p.conn == conn) && int_eq p.uid uid
-
-abbrev pub has_pub : ℕ → ℤ → Topic → Bool
-has_pub conn uid t = list_any (is_pub conn uid) t.pubs
-
--- how many publishers the connection has
-abbrev pub pubs_of : ℕ → List Topic → ℕ
-pubs_of conn [] = 0
-pubs_of conn (t ∷ ts) = count_by (λ p. p.conn == conn) t.pubs + pubs_of conn ts
-
-abbrev pub is_named : List ℕ → Topic → Bool
-is_named name t = bytes_eq t.name name
-
--- ---- limits
-
--- the most publishers of one connection, the most bytes of the compact text of properties, the most living topics,
--- and the last id of a topic
-abbrev pub most_pubs : ℕ
-most_pubs = 16_384
-
-abbrev pub most_props : ℕ
-most_props = 65_536
-
-abbrev pub most_topics : ℕ
-most_topics = 16_384
-
-abbrev pub last_id : ℕ
-last_id = 268_435_455
-
--- ---- a publish
-
--- the first cause that refuses a new topic with these properties, where there are so many and this id is next
-abbrev pub new_cause : Props → ℕ → ℕ → Option Cause
-new_cause props count next =
-    if nat_lt most_props (length (compact_text props)) then Some PropsFull
-    else if nat_le most_topics count then Some TopicsFull
-    else if nat_lt last_id next then Some IdsSpent
-    else None
-
--- the first cause that refuses a publish
-abbrev pub publish_cause : List Topic → ℕ → ℕ → ℤ → List ℕ → Props → Option Cause
-publish_cause ts next conn uid name props =
-    if is_special name then Some Special
-    else if list_any (has_pub conn uid) ts then Some UidInUse
-    else if nat_le most_pubs (pubs_of conn ts) then Some PubsFull
-    else if list_any (is_named name) ts then None
-    else new_cause props (length ts) next
+-- ---- what happens to a life at a place
 
 -- the list with its first item that passes the test changed
 abbrev pub at_first : {X : Type 0} → (X → Bool) → (X → X) → List X → List X
 at_first test f [] = []
 at_first test f (x ∷ xs) = if test x then f x ∷ xs else x ∷ at_first test f xs
 
--- a life with one publisher more
-abbrev pub with_pub : Pub → Life → Life
-with_pub p l = record l { pubs = l.pubs ++ p ∷ [] }
+-- the first life that goes on and whose topic passes the test, changed
+abbrev pub at_living : (Topic → Bool) → (Life → Life) → List Life → List Life
+at_living test f lives = at_first (λ l. is_living l && test (topic_of l)) f lives
+
+-- it ends where it has no publisher left and no flag keeps it
+abbrev pub or_ended : ℕ → Life → Life
+or_ended place l = if lives_on (topic_of l) then l else record l { over = Some place }
+
+abbrev pub with_publishing : ℕ → Pub → Life → Life
+with_publishing place p l =
+    record l {
+      pubs = l.pubs ++ p ∷ [];
+      publishings = l.publishings ++ record { place = place; conn = p.conn; uid = p.uid } ∷ [];
+    }
 
 -- a life that a publish begins
-abbrev pub born : ℕ → ℕ → List ℕ → List ℕ → Props → Pub → Life
-born place id name typ props p = record { id = id; name = name; typ = typ; props = props; pubs = p ∷ []; born = place }
+abbrev pub born : ℕ → ℕ → List ℕ → List ℕ → Data → Pub → Life
+born place id name typ props p =
+    record {
+      id = id;
+      name = name;
+      typ = typ;
+      props = props;
+      pubs = p ∷ [];
+      over = None;
+      publishings = record { place = place; conn = p.conn; uid = p.uid } ∷ [];
+      settings = [];
+      puts = [];
+    }
 
--- the lives after a publish that counts. A topic that lives keeps its type and its properties
-abbrev pub published : ℕ → List ℕ → Props → Pub → List Life → List Life
-published place name props p lives =
-    if list_any (is_named name) (topics lives)
-    then at_first (λ l. is_named name (topic_of l)) (with_pub p) lives
-    else lives ++ born place (length lives + 1) name p.typ props p ∷ []
+abbrev pub without_publisher : ℕ → ℤ → Life → Life
+without_publisher conn uid l = record l { pubs = filter (λ p. not (is_publisher conn uid p)) l.pubs }
 
--- the id of the topic of that name after it
-abbrev pub id_named : List ℕ → List Life → ℕ
-id_named name [] = 0
-id_named name (l ∷ lives) = if is_named name (topic_of l) then l.id else id_named name lives
+abbrev pub without_conn : ℕ → Life → Life
+without_conn conn l = record l { pubs = filter (λ p. not (is_of conn p)) l.pubs }
+
+abbrev pub with_setting : ℕ → ℕ → Data → Life → Life
+with_setting place conn u l =
+    record l {
+      props = updated l.props u;
+      settings = l.settings ++ record { place = place; conn = conn; update = u } ∷ [];
+    }
+
+abbrev pub with_a_put : Put → Life → Life
+with_a_put p l = record l { puts = p ∷ l.puts }
+
+-- the end of a connection ends a life where it takes its last publisher
+abbrev pub closed_for : ℕ → ℕ → Life → Life
+closed_for place conn l =
+    if is_living l && has_conn conn (topic_of l)
+    then or_ended place (without_conn conn l)
+    else without_conn conn l
+
+-- ---- saved topics
+
+-- a restored value was put at the place 0, with the time 0
+abbrev pub restored_put : Option Value → List Put
+restored_put None = []
+restored_put (Some v) = record { place = 0; time = 0; value = v } ∷ []
+
+abbrev pub restored_life : ℕ → Saved → Life
+restored_life id s =
+    record {
+      id = id;
+      name = s.name;
+      typ = s.typ;
+      props = s.props;
+      pubs = [];
+      over = None;
+      publishings = [];
+      settings = [];
+      puts = restored_put s.value;
+    }
+
+-- the lives of restored topics, from an id on
+abbrev pub restored : ℕ → List Saved → List Life
+restored id [] = []
+restored id (s ∷ saved) = restored_life id s ∷ restored (id + 1) saved

@@ -1,18 +1,18 @@
 //! Acts, answers, and the entries of a history.
 
-ghost use Rattle.std.specs.Prelude.{◌≡◌, IfOk};
-ghost use Rattle.nt_server.specs.Handed.{nothing};
-
-use nt_control::{ClientMsg, ServerMsg};
+use nt_control::ClientMsg;
+use nt_frames::ValueMsg;
+use nt_outbox::Batch;
+use nt_table::Cause;
 use nt_topics::{ClientName, Name};
-use std::alloc::{AllocError, Global};
-use std::marker::Model;
 
 /// What a connection says.
 #[derive(Debug, Drop)]
 pub enum Msg {
     /// A control message.
     Control(ClientMsg),
+    /// A value, for the publisher whose uid is the message's id.
+    Put(ValueMsg),
 }
 
 /// What a worker asks of the server.
@@ -24,67 +24,12 @@ pub enum Act {
     Said { conn: u32, msg: Msg },
     /// A connection is handed what it is owed, at most so many messages.
     Drain { conn: u32, budget: u32 },
-}
-
-/// Why an act is ignored.
-#[derive(Clone, Copy, Debug, PartialEq, Eq)]
-pub enum Cause {
-    /// The connection isn't open for this worker.
-    NoConn,
-    /// The connections' numbers are used up.
-    ConnsSpent,
-    /// The name begins with `$`.
-    Special,
-    /// The connection has a publisher with this uid.
-    UidInUse,
-    /// The connection has as many publishers as it may have.
-    PubsFull,
-    /// A new topic's properties have a longer text than they may have.
-    PropsFull,
-    /// There are as many topics as there may be.
-    TopicsFull,
-    /// The topics' ids are used up.
-    IdsSpent,
-}
-
-/// The messages of a drain.
-#[derive(Debug, Drop)]
-pub struct Batch {
-    pub texts: Vec<ServerMsg>,
-}
-
-impl Model for Batch {
-    ghost use Rattle.nt_server.specs.Handed.{Handed};
-    ghost use Rattle.nt_topics.specs.contracts.properties.Props as props;
-    ghost use Rattle.std.specs.Coded.{codes};
-
-    ghost Value = { Handed };
-
-    ghost coded = { Prim.hlevel (codes, props.the_row.coded) };
-
-    ghost view = { λ b. record { texts = b.texts.items } };
-}
-
-impl Batch {
-    /// No messages.
-    pub fn empty(alloc: Global) -> Batch
-        ensures { result ≡ nothing }
-    {
-        Batch {
-            texts: Vec::new(alloc),
-        }
-    }
-
-    /// Equal messages. It fails for want of memory alone.
-    pub fn copy(&self, alloc: Global) -> Result<Batch, AllocError>
-        ensures { IfOk result (λ b. b ≡ self.now) }
-    {
-        let mut texts = Vec::with_capacity(alloc, self.texts.len())?;
-        for text in &self.texts {
-            texts.push(text.copy(alloc)?)?;
-        }
-        Ok(Batch { texts })
-    }
+    /// A connection closes.
+    Close { conn: u32 },
+    /// The worker asks to accept one connection more.
+    Permit,
+    /// The server shuts: no permit is granted any more.
+    Shut,
 }
 
 /// What the server answers.
@@ -98,6 +43,14 @@ pub enum StepOut {
     Ignored(Cause),
     /// The connection is handed these messages.
     Drained(Batch),
+    /// The connection is closed.
+    Closed,
+    /// The worker may accept one connection more.
+    Permitted,
+    /// It may not.
+    NoPermit,
+    /// The server is shut.
+    Shut,
 }
 
 /// What an entry tells.
@@ -109,8 +62,16 @@ pub enum Deed {
     NotOpened,
     /// A connection said this.
     Said(Msg),
-    /// A connection was handed these messages.
+    /// A connection was handed these messages, none where the drain was ignored.
     Drained(Batch),
+    /// A connection was closed, where it was open for the worker.
+    Closed,
+    /// A permit was granted.
+    Permitted,
+    /// It was not.
+    NoPermit,
+    /// The server was shut.
+    Shut,
 }
 
 /// One entry of a history: who acted, for which connection (0 where there is none), when, and what

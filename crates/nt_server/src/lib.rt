@@ -1,14 +1,26 @@
-//! The table's server as a pure core: each act is one entry of one history.
+//! The server: each act of each connection is one entry of one history.
 #![tactic(auto)]
 
 mod act;
-mod conns;
+mod difference;
+mod drain;
+mod hear;
+mod inner;
+mod look;
+mod names;
+mod open;
+mod refresh;
+mod restore;
+mod rewant;
+mod roster;
+mod said;
+mod saved;
 mod server;
-mod table;
-mod topic;
-mod topics;
-mod waiting;
+mod step;
+mod taken;
+mod told;
 
-pub use act::{Act, Batch, Cause, Deed, Entry, Msg, StepOut};
-pub use server::{Server, Stepped};
-pub use topic::{Open, Pub, Pubs, Topic, Unanswered};
+pub use act::{Act, Deed, Entry, Msg, StepOut};
+pub use open::Open;
+pub use server::Server;
+pub use step::Stepped;

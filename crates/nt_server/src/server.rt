@@ -1,127 +1,105 @@
 //! The server.
 
-ghost use Rattle.std.specs.Prelude.{◌≡◌, ◌≤◌, true, false, List, [], ◌∷◌, ◌++◌, IfOk, OnOk, OnErr, is_none, length, max, if◌then◌else◌};
+ghost use Rattle.std.specs.Prelude.{◌≡◌, ◌<◌, ◌^◌, true, false, List, [], length, IfOk, OnOk, OnErr};
+ghost use Rattle.nt_server.specs.declared.act.Entry.{Entry};
+ghost use Rattle.nt_server.specs.Changes.{added_changes};
 ghost use Rattle.nt_server.specs.Lives.{topics};
-ghost use Rattle.nt_server.specs.Now.{Start, now_of, is_open};
-ghost use Rattle.nt_server.specs.Owed.{owed};
-ghost use Rattle.nt_server.specs.Answer.{said_out, entry};
-ghost use Rattle.nt_server.specs.State.{table_counted, cause_at, state_after};
-ghost use Rattle.nt_server.specs.Step.{Stands, Steps, IsEntryOf, HasBudget, IsTaken, IsTakenMsg, reply};
+ghost use Rattle.nt_server.specs.Now.{Start, now_of};
+ghost use Rattle.nt_server.specs.Owed.{owed, queued, behind};
+ghost use Rattle.nt_server.specs.Saved.{IsSavedSet, AreSaved};
+ghost use Rattle.nt_server.specs.Step.{MayAct, Stands, Steps, IsEntryOf};
+ghost use Rattle.nt_server.specs.View.{begun};
 
-use crate::act::{Act, Batch, Cause, Deed, Entry, Msg, StepOut};
-use crate::conns::{given_name, is_open};
-use crate::table::Table;
-use crate::topic::{Open, Topic};
-use nt_control::ClientMsg;
-use nt_topics::ClientName;
+use crate::act::Act;
+use crate::inner::Inner;
+use crate::look::{fell_behind, pending, queued};
+use crate::restore::restored;
+use crate::roster::metas_of;
+use crate::saved::saved_of;
+use crate::step::Stepped;
+use nt_table::{Saved, Table};
 use std::alloc::{AllocError, Global};
 use std::marker::Model;
 
-/// The last number of a connection.
-const LAST_CONN: u32 = 268_435_455;
-
-/// What an act is answered, and the entry that it makes.
-#[derive(Debug, Drop)]
-pub struct Stepped {
-    pub out: StepOut,
-    pub entry: Entry,
-}
-
-/// The server of the table, as a pure core. Contracts see what it keeps of its history.
+/// The server. One that met want of memory has failed for good: nothing is said of what it keeps
+/// any more, and each later step fails too. Contracts see whether it failed, and its state.
 #[derive(Debug, Drop)]
 pub struct Server {
     failed: bool,
-    permits: u32,
-    moment: u64,
-    opened: u32,
-    conns: Vec<Open>,
-    table: Table,
+    inner: Inner,
 }
 
 impl Model for Server {
+    ghost use Rattle.std.specs.Prelude.{◌≡◌, false};
     ghost use Rattle.nt_server.specs.Step.{Kept};
     ghost use Rattle.nt_topics.specs.contracts.properties.Props as props;
     ghost use Rattle.std.specs.Coded.{codes};
 
     ghost Value = { Kept };
 
+    ghost use Rattle.nt_server.specs.View.{state_of, IsKept};
+
     ghost coded = { Prim.hlevel (codes, props.the_row.coded) };
 
-    ghost view = { λ s. record {
-      failed = s.failed;
-      state = record {
-        permits = s.permits;
-        moment = s.moment;
-        opened = s.opened;
-        conns = s.conns.items;
-        table = s.table;
-      };
-    } };
-}
+    ghost view = { λ s. record { failed = s.failed; state = state_of s.inner } };
 
-/// Does to the table what a connection says. It answers the first cause that refuses it, or none
-/// where it counts, and fails for want of memory alone.
-fn apply(
-    alloc: Global,
-    table: &mut Table,
-    conns: &[Open],
-    worker: u32,
-    conn: u32,
-    msg: &Msg,
-) -> Result<Option<Cause>, AllocError>
-    requires { IsTakenMsg msg.now }
-    ensures cause { IfOk result (λ cause. cause ≡ cause_at table.old conns.now worker conn msg.now) }
-    ensures table { IfOk result (λ cause.
-        table.new ≡ (if is_none cause then table_counted table.old conn msg.now else table.old)) }
-{
-    if !is_open(conns, worker, conn) {
-        return Ok(Some(Cause::NoConn));
-    }
-    match msg {
-        Msg::Control(
-            ClientMsg::Publish {
-                name,
-                uid,
-                typ,
-                props,
-            },
-        ) => table.publish(alloc, conn, *uid, name, typ, props),
-        Msg::Control(_) => unreachable!(),
-    }
-}
-
-/// What a message is answered.
-fn said_out(cause: Option<Cause>) -> StepOut
-    ensures { result ≡ said_out cause }
-{
-    match cause {
-        None => StepOut::Done,
-        Some(cause) => StepOut::Ignored(cause),
-    }
+    ghost invariant = { λ s. s.failed ≡ false → IsKept s.inner };
 }
 
 impl Server {
-    /// A server without connections and topics, which grants so many permits.
-    pub fn new(alloc: Global, permits: u32) -> Server
-        ensures { Stands result (record { permits = permits }) [] }
+    /// A server without connections and topics, which grants so many permits. It fails for want of
+    /// memory alone.
+    pub fn new(alloc: Global, permits: u32) -> Result<Server, AllocError>
+        ensures { IfOk result
+            (λ s. Stands s (record { permits = permits; saved = [] }) []) }
     {
-        Server {
-            failed: false,
-            permits,
-            moment: 0,
-            opened: 0,
-            conns: Vec::new(alloc),
-            table: Table::new(alloc),
-        }
+        Server::over(alloc, permits, Table::new(alloc))
     }
 
-    /// One act of a worker at this moment, in microseconds: what it is answered, and its entry. An
-    /// entry's moment is never before that of the entry before it. Of what a connection says, a
-    /// publish alone is taken so far.
+    /// A server without connections, over the topics that were saved: their ids are from 1, in the
+    /// order of the list, and a value has the time 0. It grants so many permits. It fails for want
+    /// of memory alone.
+    pub fn restore(alloc: Global, permits: u32, saved: Vec<Saved>) -> Result<Server, AllocError>
+        requires { IsSavedSet saved.items }
+        ensures { IfOk result
+            (λ s. Stands s (record { permits = permits; saved = saved.items }) []) }
+    {
+        Server::over(alloc, permits, restored(alloc, saved)?)
+    }
+
+    /// A server without connections over these topics. It fails for want of memory alone.
+    fn over(alloc: Global, permits: u32, table: Table) -> Result<Server, AllocError>
+        ensures { IfOk result (λ s. s ≡ record {
+          failed = false;
+          state = record (begun permits []) { topics = table.topics; next = table.next };
+        }) }
+    {
+        let opens = Vec::new(alloc);
+        let metas = metas_of(alloc, &opens, &table)?;
+        Ok(Server {
+            failed: false,
+            inner: Inner {
+                permits,
+                granted: 0,
+                shut: false,
+                moment: 0,
+                place: 0,
+                opened: 0,
+                table,
+                opens,
+                taken: Vec::new(alloc),
+                metas,
+            },
+        })
+    }
+
+    /// One act of a worker at this moment, in microseconds: what it is answered, its entry, and the
+    /// changes that it makes. An entry's moment is never before that of the entry before it.
     ///
     /// # Errors
     ///
-    /// Want of memory alone. The server has then failed: each later step answers the same.
+    /// Want of memory alone, and so too at the entry after the one of the place 2^63 - 1. The
+    /// server has then failed: each later step answers the same.
     pub fn step(
         &mut self,
         alloc: Global,
@@ -129,179 +107,74 @@ impl Server {
         now: u64,
         act: Act,
     ) -> Result<Stepped, AllocError>
-        requires budget { HasBudget act }
-        requires taken { IsTaken act }
-        ensures steps { IfOk result (λ s. (start : Start) (past : List Entry) → Stands self.old start past
+        requires may { MayAct act }
+        requires now { now < 2 ^ 63 }
+        ensures steps { IfOk result (λ s. (start : Start) (past : List Entry)
+            → Stands self.old start past
             → Steps start past worker now act s.out s.entry self.new) }
         ensures entry { IfOk result (λ s. IsEntryOf worker now act s.out s.entry) }
+        ensures changes { IfOk result (λ s. (start : Start) (past : List Entry)
+            → Stands self.old start past → s.changes ≡ added_changes start past s.entry) }
         ensures well { OnOk result (self.old.failed ≡ false) }
         ensures still_well { OnOk result (self.new.failed ≡ false) }
         ensures failed { OnErr result (self.new.failed ≡ true) }
     {
         if self.failed {
+            drop(act);
             return Err(AllocError);
         }
-        match self.step_well(alloc, worker, now, act) {
-            Ok(stepped) => Ok(stepped),
-            Err(error) => {
-                self.failed = true;
-                Err(error)
-            }
-        }
+        let stepped = self.inner.step_well(alloc, worker, now, act);
+        self.failed = stepped.is_err();
+        stepped
     }
 
-    /// How many messages the connection is owed.
+    /// How many messages the connection is owed: none where it isn't open, or fell behind.
     pub fn pending(&self, conn: u32) -> u64
         ensures { (start : Start) (past : List Entry) → Stands self.now start past
             → result ≡ length (owed start past conn) }
     {
-        self.table.pending(conn)
+        pending(&self.inner.opens, conn)
     }
 
-    /// The living topics, by rising id.
-    pub fn topics(&self) -> &[Topic]
+    /// What is queued for the connection weighs so much: nothing where it isn't open.
+    pub fn queued(&self, conn: u32) -> u64
         ensures { (start : Start) (past : List Entry) → Stands self.now start past
-            → result.now ≡ topics (now_of start past).lives }
+            → result ≡ queued start past conn }
     {
-        self.table.topics()
+        queued(&self.inner.opens, conn)
     }
 
-    /// The step of a server that hasn't failed.
-    fn step_well(
-        &mut self,
-        alloc: Global,
-        worker: u32,
-        now: u64,
-        act: Act,
-    ) -> Result<Stepped, AllocError>
-        requires { IsTaken act }
-        ensures out { IfOk result (λ s. s.out ≡ reply self.old.state worker act) }
-        ensures entry { IfOk result (λ s. s.entry ≡ entry worker (max self.old.state.moment now) act s.out) }
-        ensures state { IfOk result (λ s. self.new.state ≡ state_after self.old.state s.entry) }
-        ensures still { OnOk result (self.new.failed ≡ self.old.failed) }
+    /// The weight with which the connection, where it is open, fell behind.
+    pub fn is_behind(&self, conn: u32) -> Option<u64>
+        ensures { (start : Start) (past : List Entry) → Stands self.now start past
+            → result ≡ behind start past conn }
     {
-        let moment = self.moment.max(now);
-        match act {
-            Act::Open { name } => self.open(alloc, worker, moment, &name),
-            Act::Said { conn, msg } => self.said(alloc, worker, moment, conn, msg),
-            Act::Drain { conn, budget } => self.drain(alloc, worker, moment, conn, budget),
-        }
+        fell_behind(&self.inner.opens, conn)
     }
 
-    /// Opens a connection under the next number and a name that no open connection has.
-    fn open(
-        &mut self,
-        alloc: Global,
-        worker: u32,
-        moment: u64,
-        name: &ClientName,
-    ) -> Result<Stepped, AllocError>
-        ensures out { IfOk result (λ s. s.out ≡ reply self.old.state worker (Act.Open name.now)) }
-        ensures entry { IfOk result (λ s. s.entry ≡ entry worker moment (Act.Open name.now) s.out) }
-        ensures state { IfOk result (λ s. self.new.state ≡ state_after self.old.state s.entry) }
-        ensures still { OnOk result (self.new.failed ≡ self.old.failed) }
+    /// Whether the server is shut.
+    pub fn is_shut(&self) -> bool
+        ensures { (start : Start) (past : List Entry) → Stands self.now start past
+            → result ≡ (now_of start past).shut }
     {
-        self.moment = moment;
-        if self.opened >= LAST_CONN {
-            return Ok(Stepped {
-                out: StepOut::Ignored(Cause::ConnsSpent),
-                entry: Entry {
-                    worker,
-                    conn: 0,
-                    now: moment,
-                    deed: Deed::NotOpened,
-                },
-            });
-        }
-        let given = given_name(alloc, &self.conns, name)?;
-        let conn = self.opened + 1;
-        self.conns.push(Open {
-            conn,
-            worker,
-            name: given.copy(alloc)?,
-        })?;
-        self.opened = conn;
-        Ok(Stepped {
-            out: StepOut::Opened {
-                conn,
-                name: given.copy(alloc)?,
-            },
-            entry: Entry {
-                worker,
-                conn,
-                now: moment,
-                deed: Deed::Opened(given),
-            },
-        })
+        self.inner.shut
     }
 
-    /// Takes what a connection says. The message goes into the entry, and the table copies what it
-    /// keeps.
-    fn said(
-        &mut self,
-        alloc: Global,
-        worker: u32,
-        moment: u64,
-        conn: u32,
-        msg: Msg,
-    ) -> Result<Stepped, AllocError>
-        requires { IsTakenMsg msg }
-        ensures out { IfOk result (λ s. s.out ≡ reply self.old.state worker (Act.Said conn msg)) }
-        ensures entry { IfOk result (λ s. s.entry ≡ entry worker moment (Act.Said conn msg) s.out) }
-        ensures state { IfOk result (λ s. self.new.state ≡ state_after self.old.state s.entry) }
-        ensures still { OnOk result (self.new.failed ≡ self.old.failed) }
+    /// The topics that are saved: the persistent ones, by the bytes of their names, with their held
+    /// values. It fails for want of memory alone.
+    pub fn saved(&self, alloc: Global) -> Result<Vec<Saved>, AllocError>
+        ensures { IfOk result (λ saved. (start : Start) (past : List Entry)
+            → Stands self.now start past
+            → AreSaved (topics (now_of start past).lives) saved.items) }
     {
-        self.moment = moment;
-        let cause = apply(alloc, &mut self.table, &self.conns, worker, conn, &msg)?;
-        Ok(Stepped {
-            out: said_out(cause),
-            entry: Entry {
-                worker,
-                conn,
-                now: moment,
-                deed: Deed::Said(msg),
-            },
-        })
+        saved_of(alloc, &self.inner.table)
     }
 
-    /// Hands a connection the first messages that it is owed. The batch stands in the answer and in
-    /// the entry, so it is copied once.
-    #[tactic(auto, using(crate::proofs::Left::without_none))]
-    fn drain(
-        &mut self,
-        alloc: Global,
-        worker: u32,
-        moment: u64,
-        conn: u32,
-        budget: u32,
-    ) -> Result<Stepped, AllocError>
-        ensures out { IfOk result (λ s. s.out ≡ reply self.old.state worker (Act.Drain conn budget)) }
-        ensures entry { IfOk result (λ s. s.entry ≡ entry worker moment (Act.Drain conn budget) s.out) }
-        ensures state { IfOk result (λ s. self.new.state ≡ state_after self.old.state s.entry) }
-        ensures still { OnOk result (self.new.failed ≡ self.old.failed) }
+    /// The table of topics.
+    pub fn table(&self) -> &Table
+        ensures { (start : Start) (past : List Entry) → Stands self.now start past
+            → result.now.topics ≡ topics (now_of start past).lives }
     {
-        self.moment = moment;
-        if !is_open(&self.conns, worker, conn) {
-            return Ok(Stepped {
-                out: StepOut::Ignored(Cause::NoConn),
-                entry: Entry {
-                    worker,
-                    conn,
-                    now: moment,
-                    deed: Deed::Drained(Batch::empty(alloc)),
-                },
-            });
-        }
-        let batch = self.table.drain(alloc, conn, budget)?;
-        let told = batch.copy(alloc)?;
-        Ok(Stepped {
-            out: StepOut::Drained(batch),
-            entry: Entry {
-                worker,
-                conn,
-                now: moment,
-                deed: Deed::Drained(told),
-            },
-        })
+        &self.inner.table
     }
 }

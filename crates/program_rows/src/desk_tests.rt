@@ -9,13 +9,13 @@ use nt_link::{Failed, MemSink, Source};
 use std::alloc::{AllocError, Global};
 use std::test::Fail;
 
-const PUBLISH_A: &str =
+pub const PUBLISH_A: &str =
     r#"[{"method":"publish","params":{"name":"/a","properties":{},"pubuid":1,"type":"int"}}]"#;
 
-const ANNOUNCE_A: &str =
+pub const ANNOUNCE_A: &str =
     r#"[{"method":"announce","params":{"id":1,"name":"/a","properties":{},"pubuid":1,"type":"int"}}]"#;
 
-const PUBLISH_B: &str =
+pub const PUBLISH_B: &str =
     r#"[{"method":"publish","params":{"name":"/b","pubuid":-2,"type":"double"}}]"#;
 
 const ANNOUNCE_B: &str =
@@ -98,11 +98,8 @@ fn desk_announces_properties(rt: HostRuntime) -> Result<(), Fail> {
         br#"[{"method":"publish","params":{"name":"/a","properties":{"b":null,"retained":true,"x":0.5},"pubuid":1,"type":"int"}}]"#;
     let told =
         r#"[{"method":"announce","params":{"id":1,"name":"/a","properties":{"retained":true},"pubuid":1,"type":"int"}}]"#;
-    // Messages that the table doesn't take yet are passed over.
-    let others =
-        br#"[{"method":"subscribe","params":{"subuid":1,"topics":["/a"]}},{"method":"setproperties","params":{"name":"/a","update":{"x":1}}},{"method":"unpublish","params":{"pubuid":1}},{"method":"unsubscribe","params":{"subuid":1}}]"#;
     let line = format!(in alloc; "{told}\n")?;
-    assert!(rt; desk_prints(alloc, &[publish, b"\n", others], &[], &[], line.as_str(), 0)?);
+    assert!(rt; desk_prints(alloc, &[publish, b"\n"], &[], &[], line.as_str(), 0)?);
     Ok(())
 }
 

@@ -2,6 +2,8 @@
 #![tactic(auto)]
 
 #[cfg(test)]
+mod desk_frames_tests;
+#[cfg(test)]
 mod desk_tests;
 #[cfg(test)]
 mod tests;

@@ -1,12 +1,13 @@
-use Rattle.std.proofs.Common.{length, ◌∙◌, ap}
-use Rattle.nt_server.specs.State.{of_conn}
-use Rattle.nt_server.specs.Step.{Kept}
-use Rattle.nt_server.proofs.StepLaws.{pending-law}
+use Rattle.std.proofs.Common.{◌≡◌, List, length, ◌∙◌, ap, sym, rules}
+use Rattle.nt_server.specs.declared.open.Open.{Open}
+use Rattle.nt_server.specs.State.{outbox_at}
+use Rattle.nt_outbox.specs.Calls as box
+use Rattle.nt_server.proofs.Looked.{looked-pending}
 use Rattle.nt_server.proofs.server.Server.pending.Goals as goal
 
 pub returns : goal.returns
 returns c =
-    λ start past s.
-    c.pending.ensures
-    ∙ ap (λ (k : Kept). length (of_conn c.args.conn k.state.table.waiting)) c.self.view_is
-    ∙ pending-law c.args.self.now start past c.args.conn s
+    let opens : c.deref.result.now ≡ c.args.self.now.state.opens = search rules in
+    λ start past stands.
+    c.pending.ensures ∙ ap (λ (os : List Open). length (box.keys_of (outbox_at os c.args.conn))) opens
+    ∙ looked-pending c.args.self.now start past c.args.conn stands

@@ -1,9 +1,26 @@
-use Rattle.std.proofs.Common.{◌∙◌}
-use Rattle.nt_server.proofs.StepLaws.{step-law}
+use Rattle.std.proofs.Common.{◌≡◌, List, IfOk, subst}
+use Rattle.nt_server.specs.contracts.server.Server.{the_view}
+use Rattle.nt_server.specs.declared.act.Entry.{Entry}
+use Rattle.nt_server.specs.Changes.{added_changes}
+use Rattle.nt_server.specs.Now.{Start}
+use Rattle.nt_server.specs.Step.{Kept, Stands, Steps}
+use Rattle.nt_server.proofs.Stepping.{well-after, step-steps, step-changes}
 use Rattle.nt_server.proofs.server.Server.step.Goals as goal
 
-pub returns-in-Ok-clause-steps : goal.returns-in-Ok-clause-steps
-returns-in-Ok-clause-steps c =
-    λ start past s.
-    step-law start past c.args.self.now c.args.worker c.args.now c.args.act c.in-Ok.stepped.out c.in-Ok.stepped.entry c.step_well.new.self
-    c.requires.budget s (c.in-Ok.ensures.still ∙ s.is_well) c.in-Ok.ensures.out c.in-Ok.ensures.entry c.in-Ok.ensures.state
+pub returns-clause-steps : goal.returns-clause-steps
+returns-clause-steps c =
+    let new : Kept = the_view record { failed = c.is_err-self-inside.result; inner = c.step_well-stepped.new.self } in
+    subst (λ (k : Kept). IfOk c.step_well-stepped.result (λ s. (start : Start) (past : List Entry)
+    → Stands k start past
+    → Steps start past c.args.worker c.args.now c.args.act s.out s.entry new)) c.self.view_is
+    (step-steps (the_view c.self.inside) c.args.worker c.args.now c.args.act c.step_well-stepped.result new
+    c.requires.may c.requires.now c.step_well-stepped.ensures.out c.step_well-stepped.ensures.entry
+    c.step_well-stepped.ensures.state
+    (well-after c.step_well-stepped.result c.is_err-self-inside.result c.is_err-self-inside.ensures.value))
+
+pub returns-clause-changes : goal.returns-clause-changes
+returns-clause-changes c =
+    subst (λ (k : Kept). IfOk c.step_well-stepped.result (λ s. (start : Start) (past : List Entry)
+    → Stands k start past → s.changes ≡ added_changes start past s.entry)) c.self.view_is
+    (step-changes (the_view c.self.inside) c.args.worker c.args.now c.args.act c.step_well-stepped.result
+    c.step_well-stepped.ensures.entry c.step_well-stepped.ensures.changes)

@@ -1,8 +1,0 @@
-use Rattle.std.proofs.Common.{List}
-use Rattle.nt_server.specs.declared.act.Entry.{Entry}
-use Rattle.nt_cli.specs.Desk.{with_said}
-use Rattle.nt_cli.specs.DeskRun.{Sits}
-use Rattle.nt_cli.proofs.desk.say_all.Given as goal
-
-abbrev pub invariant-loop-msg : goal.invariant-loop-msg
-invariant-loop-msg l = (past : List Entry) → Sits l.fn.server past → Sits l.server (with_said past l.moment l.yielded)

@@ -1,0 +1,30 @@
+use Rattle.std.proofs.Common.{List, Err, subst}
+use Rattle.std.specs.Io.KnownBytes.{Appends}
+use Rattle.std.proofs.lemmas.Result.{err_from_is_err_and, on_ok_weaker}
+use Rattle.nt_link.specs.declared.frame.Frame.{Frame}
+use Rattle.nt_server.specs.declared.act.Entry.{Entry}
+use Rattle.nt_cli.specs.Desk.{lines_of}
+use Rattle.nt_cli.specs.DeskRun.{Sits, Prints}
+use Rattle.nt_cli.proofs.DeskSteps.{round-prints, round-stopped, behind_round-is}
+use Rattle.nt_cli.proofs.round.answer_line.Goals as goal
+
+pub returns-in_err-print_frames-clause-prints : goal.returns-in_err-print_frames-clause-prints
+returns-in_err-print_frames-clause-prints g c =
+    let p = err_from_is_err_and c.from_residual-in_err-print_frames.result c.from_residual-in_err-print_frames.ensures.1 in
+    rw (p.1, p.2) (λ hears hearing past sits.
+    round-stopped hears past c.args.number c.args.line.now c.in_ok-msgs.msgs.items c.in_ok-answers.answers.items _ _ c.in_err-print_frames.field-0.0 (c.in_ok-msgs.ensures.says hears hearing) c.in_ok-answers.ensures.answers
+    (subst (λ (fs : List Frame). Prints (lines_of fs) (g.O.Sink.taken c.args.out.now) (g.O.Sink.taken c.print_frames.new.out) (Err c.in_err-print_frames.field-0.0)) c.deref.ensures.value c.in_err-print_frames.ensures.prints))
+
+pub returns-clause-prints : goal.returns-clause-prints
+returns-clause-prints g c = λ hears hearing past sits.
+    round-prints hears past c.args.number c.args.line.now c.in_ok-msgs.msgs.items c.in_ok-answers.answers.items _ _ _ c.drain_all.result (c.in_ok-msgs.ensures.says hears hearing) c.in_ok-answers.ensures.answers
+    (subst (λ (fs : List Frame). Appends (g.O.Sink.taken c.args.out.now) (g.O.Sink.taken c.print_frames.new.out) (lines_of fs)) c.deref.ensures.value c.in_ok-print_frames.ensures.prints)
+    (c.drain_all.ensures.prints _ (c.in_ok-answers.ensures.sits past sits))
+
+pub returns-clause-sits : goal.returns-clause-sits
+returns-clause-sits g c = λ hears hearing.
+    on_ok_weaker c.drain_all.result
+    (λ sits_behind. λ past sits.
+    subst (λ (p : List Entry). Sits c.drain_all.new.server p)
+    (behind_round-is hears past c.args.number c.args.line.now c.in_ok-msgs.msgs.items (c.in_ok-msgs.ensures.says hears hearing)) (sits_behind _ (c.in_ok-answers.ensures.sits past sits)))
+    c.drain_all.ensures.sits

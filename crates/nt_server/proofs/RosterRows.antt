@@ -1,0 +1,189 @@
+-- What changes nothing that the meta topics tell of.
+use Rattle.std.proofs.Common.{◌≡◌, ℕ, ℤ, Bool, true, false, cond, List, [], ◌∷◌, ◌++◌, Some, filter, map, refl, sym, ◌∙◌, ap}
+use Rattle.std.specs.List.{flat_map}
+use Rattle.nt_values.specs.declared.value.Value.{Value}
+use Rattle.nt_control.specs.declared.message.ClientMsg.TheVariants.{Publish, Unpublish, SetProps, Subscribe, Unsubscribe}
+use Rattle.nt_subs.specs.Subscriptions.{Subs}
+use Rattle.nt_subs.specs.Wishes.{wanted}
+use Rattle.nt_table.specs.declared.topic.Topic.{Topic}
+use Rattle.nt_table.specs.declared.topic.Change.{Change}
+use Rattle.nt_table.specs.Topics.{has_publisher, is_of, change_first, with_value, with_put}
+use Rattle.nt_meta.specs.declared.roster.ConnRow.{ConnRow}
+use Rattle.nt_meta.specs.declared.roster.PubRow.{PubRow}
+use Rattle.nt_meta.specs.declared.roster.LifeRow.{LifeRow}
+use Rattle.nt_meta.specs.declared.meta.MetaNow.{MetaNow}
+use Rattle.nt_meta.specs.Meta.{metas}
+use Rattle.nt_outbox.specs.Calls.{Box}
+use Rattle.nt_server.specs.declared.act.Msg.{Msg}
+use Rattle.nt_server.specs.declared.act.Msg.TheVariants.{Control, Put}
+use Rattle.nt_server.specs.declared.open.Open.{Open}
+use Rattle.nt_server.specs.declared.taken.Taken.{Taken}
+use Rattle.nt_server.specs.Metas.{life_row, sub_row, pub_row, by_uid}
+use Rattle.nt_server.specs.State.{is_number, with_outbox, open_row, metas_kept, differences, told_differences, refreshed, rewanted_all, meta_rewanted_all, rewanting, told_changes, told_sender, told_said, drained_by, drained_from}
+
+-- a change of each connection that its row doesn't tell of
+rows_same : (ts : List Topic) (f : Open → Open) → ((o : Open) → open_row ts (f o) ≡ open_row ts o)
+    → (opens : List Open) → map (open_row ts) (map f opens) ≡ map (open_row ts) opens
+rows_same ts f same [] = refl
+rows_same ts f same (o ∷ opens) =
+    ap (λ r. r ∷ map (open_row ts) (map f opens)) (same o)
+    ∙ ap (λ rs. open_row ts o ∷ rs) (rows_same ts f same opens)
+
+pub metas_same : (ts : List Topic) (f : Open → Open) → ((o : Open) → open_row ts (f o) ≡ open_row ts o)
+    → (opens : List Open) → metas_kept (map f opens) ts ≡ metas_kept opens ts
+unfolding metas_kept
+metas_same ts f same opens =
+    ap (λ (rs : List ConnRow). metas (record { conns = rs; topics = map life_row ts }))
+    (rows_same ts f same opens)
+
+-- other outboxes
+pub metas_told : (ts : List Topic) (f : Open → Box) (opens : List Open)
+    → metas_kept (map (λ o. with_outbox (f o) o) opens) ts ≡ metas_kept opens ts
+metas_told ts f opens = metas_same ts (λ o. with_outbox (f o) o) (λ o. refl) opens
+
+-- a connection is told of its other subscriptions
+metas_rewanting : (place : ℕ) (taken : List Taken) (ts : List Topic) (ms : List MetaNow) (conn : ℕ)
+    (old : Subs) (opens : List Open)
+    → metas_kept (rewanting place taken ts ms conn old opens) ts ≡ metas_kept opens ts
+metas_rewanting place taken ts ms conn old opens = metas_same ts _ (λ o. by o (is_number conn o)) opens
+  where
+    told : Open → Open
+    told o =
+        with_outbox (meta_rewanted_all place (wanted old) (wanted o.subs) ms
+        (rewanted_all place taken (wanted old) (wanted o.subs) ts o.outbox)) o
+
+    by : (o : Open) (b : Bool) → open_row ts (cond b (told o) o) ≡ open_row ts o
+    by o true = refl
+    by o false = refl
+
+-- the connections after one of them, which had these subscriptions, has other ones, and after all were told
+-- what is different of the meta topics
+pub record IsRenewed (place : ℕ) (before : List MetaNow) (taken : List Taken) (ts : List Topic) (conn : ℕ)
+    (old : Subs) (opens : List Open) (after : List MetaNow) (told : List Open) : Type 0 where
+  pub opens_are : told
+      ≡ refreshed place before ts (rewanting place taken ts (metas_kept opens ts) conn old opens)
+  pub metas_are : after ≡ metas_kept told ts
+
+pub renewed : (place : ℕ) (before : List MetaNow) (taken : List Taken) (ts : List Topic) (conn : ℕ)
+    (old : Subs) (opens : List Open) (after : List MetaNow) (wanting told : List Open)
+    → after ≡ metas_kept opens ts
+    → wanting ≡ rewanting place taken ts after conn old opens
+    → told ≡ map (λ o. with_outbox
+    (told_differences place (wanted o.subs) (differences before after) o.outbox) o) wanting
+    → IsRenewed place before taken ts conn old opens after told
+renewed place before taken ts conn old opens after wanting told a w t =
+    record {
+      opens_are = all ∙ ap (λ ms. map (tell ms) others) (a ∙ sym same);
+      metas_are =
+          a
+          ∙ sym same
+          ∙ sym (metas_told ts (box after) others)
+          ∙ sym (ap (λ (os : List Open). metas_kept os ts) all);
+    }
+  where
+    others : List Open
+    others = rewanting place taken ts (metas_kept opens ts) conn old opens
+
+    box : List MetaNow → Open → Box
+    box ms o = told_differences place (wanted o.subs) (differences before ms) o.outbox
+
+    tell : List MetaNow → Open → Open
+    tell ms o = with_outbox (box ms o) o
+
+    same : metas_kept others ts ≡ metas_kept opens ts
+    same = metas_rewanting place taken ts (metas_kept opens ts) conn old opens
+
+    all : told ≡ map (tell after) others
+    all = t ∙ ap (map (tell after)) (w ∙ ap (λ ms. rewanting place taken ts ms conn old opens) a)
+
+-- a message that counted, told to a connection
+told_row : (us : List Topic) (place : ℕ) (ts : List Topic) (conn : ℕ) (m : Msg) (changes : List Change)
+    (o : Open) → open_row us (told_said place ts conn m changes o) ≡ open_row us o
+told_row us place ts conn m changes o = by (is_number conn o)
+  where
+    sender : (m : Msg) → open_row us (told_sender place ts m changes o) ≡ open_row us o
+    sender (Control (Publish name uid typ props)) = refl
+    sender (Control (Unpublish uid)) = refl
+    sender (Control (SetProps name update)) = refl
+    sender (Control (Subscribe uid sub)) = refl
+    sender (Control (Unsubscribe uid)) = refl
+    sender (Put v) = refl
+
+    by : (b : Bool)
+        → open_row us (cond b (told_sender place ts m changes o) (told_changes place changes o))
+        ≡ open_row us o
+    by true = sender m
+    by false = refl
+
+pub metas_said : (us : List Topic) (place : ℕ) (ts : List Topic) (conn : ℕ) (m : Msg) (changes : List Change)
+    (opens : List Open) → metas_kept (map (told_said place ts conn m changes) opens) us ≡ metas_kept opens us
+metas_said us place ts conn m changes opens =
+    metas_same us (told_said place ts conn m changes) (told_row us place ts conn m changes) opens
+
+-- a drain
+drained_row : (us : List Topic) (conn budget : ℕ) (o : Open)
+    → open_row us (drained_from conn budget o) ≡ open_row us o
+drained_row us conn budget o = by (is_number conn o)
+  where
+    by : (b : Bool) → open_row us (cond b (with_outbox (drained_by budget o.outbox) o) o) ≡ open_row us o
+    by true = refl
+    by false = refl
+
+pub metas_drained : (us : List Topic) (conn budget : ℕ) (opens : List Open)
+    → metas_kept (map (drained_from conn budget) opens) us ≡ metas_kept opens us
+metas_drained us conn budget opens =
+    metas_same us (drained_from conn budget) (drained_row us conn budget) opens
+
+-- ---- a put
+
+pubs_put : (c : ℕ) (test : Topic → Bool) (time : ℕ) (value : Value) (ts : List Topic)
+    → flat_map (λ t. map (pub_row t) (filter (is_of c) t.pubs))
+    (change_first test (λ t. Some (with_value time value t)) ts)
+    ≡ flat_map (λ t. map (pub_row t) (filter (is_of c) t.pubs)) ts
+pubs_put c test time value [] = refl
+pubs_put c test time value (t ∷ ts) = by (test t) (pubs_put c test time value ts)
+  where
+    rows : Topic → List PubRow
+    rows t = map (pub_row t) (filter (is_of c) t.pubs)
+
+    put : List Topic → List Topic
+    put ts = change_first test (λ t. Some (with_value time value t)) ts
+
+    by : (b : Bool) → flat_map rows (put ts) ≡ flat_map rows ts
+        → flat_map rows (cond b (with_value time value t ∷ ts) (t ∷ put ts)) ≡ flat_map rows (t ∷ ts)
+    by true h = refl
+    by false h = ap (λ rs. rows t ++ rs) h
+
+lives_put : (test : Topic → Bool) (time : ℕ) (value : Value) (ts : List Topic)
+    → map life_row (change_first test (λ t. Some (with_value time value t)) ts) ≡ map life_row ts
+lives_put test time value [] = refl
+lives_put test time value (t ∷ ts) = by (test t) (lives_put test time value ts)
+  where
+    put : List Topic → List Topic
+    put ts = change_first test (λ t. Some (with_value time value t)) ts
+
+    by : (b : Bool) → map life_row (put ts) ≡ map life_row ts
+        → map life_row (cond b (with_value time value t ∷ ts) (t ∷ put ts)) ≡ map life_row (t ∷ ts)
+    by true h = refl
+    by false h = ap (λ rs. life_row t ∷ rs) h
+
+rows_put : (conn : ℕ) (uid : ℤ) (time : ℕ) (value : Value) (ts : List Topic) (opens : List Open)
+    → map (open_row (with_put ts conn uid time value)) opens ≡ map (open_row ts) opens
+rows_put conn uid time value ts [] = refl
+rows_put conn uid time value ts (o ∷ opens) =
+    ap (λ r. r ∷ map (open_row (with_put ts conn uid time value)) opens)
+    (ap (λ (ps : List PubRow). row (by_uid ps)) (pubs_put o.conn (has_publisher conn uid) time value ts))
+    ∙ ap (λ rs. open_row ts o ∷ rs) (rows_put conn uid time value ts opens)
+  where
+    row : List PubRow → ConnRow
+    row ps = record { conn = o.conn; name = o.name; pubs = ps; subs = map sub_row o.subs }
+
+pub metas_put : (conn : ℕ) (uid : ℤ) (time : ℕ) (value : Value) (ts : List Topic) (opens : List Open)
+    → metas_kept opens (with_put ts conn uid time value) ≡ metas_kept opens ts
+unfolding metas_kept
+metas_put conn uid time value ts opens =
+    ap (λ (rs : List ConnRow). metas
+    (record { conns = rs; topics = map life_row (with_put ts conn uid time value) }))
+    (rows_put conn uid time value ts opens)
+    ∙ ap (λ (ls : List LifeRow). metas (record { conns = map (open_row ts) opens; topics = ls }))
+    (lives_put (has_publisher conn uid) time value ts)

@@ -1,0 +1,12 @@
+use Rattle.std.proofs.Common.{◌≡◌, ◌++◌, drop, take, map}
+use Rattle.nt_subs.specs.Wishes.{wanted}
+use Rattle.nt_server.specs.State.{with_outbox, told_differences}
+use Rattle.nt_server.proofs.refresh.tell_metas.Given as goal
+
+-- the connections passed were told, and the others are to be
+abbrev pub invariant-loop-client : goal.invariant-loop-client
+invariant-loop-client l =
+    take l.client-index l.opens
+    ++ map (λ o. with_outbox (told_differences l.place (wanted o.subs) l.found.items o.outbox) o)
+    (drop l.client-index l.opens)
+    ≡ map (λ o. with_outbox (told_differences l.place (wanted o.subs) l.found.items o.outbox) o) l.fn.opens

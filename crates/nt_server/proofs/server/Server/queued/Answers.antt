@@ -1,0 +1,13 @@
+use Rattle.std.proofs.Common.{◌≡◌, List, ◌∙◌, ap, sym, rules}
+use Rattle.nt_server.specs.declared.open.Open.{Open}
+use Rattle.nt_server.specs.State.{outbox_at}
+use Rattle.nt_outbox.specs.Calls as box
+use Rattle.nt_server.proofs.Looked.{looked-queued}
+use Rattle.nt_server.proofs.server.Server.queued.Goals as goal
+
+pub returns : goal.returns
+returns c =
+    let opens : c.deref.result.now ≡ c.args.self.now.state.opens = search rules in
+    λ start past stands.
+    c.queued.ensures ∙ ap (λ (os : List Open). box.weight_of (outbox_at os c.args.conn)) opens
+    ∙ looked-queued c.args.self.now start past c.args.conn stands

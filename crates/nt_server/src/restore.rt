@@ -1,0 +1,38 @@
+//! Saved topics that begin again.
+
+ghost use Rattle.std.specs.Prelude.{◌≡◌, ◌+◌, false, None, length, IfOk, OnOk};
+ghost use Rattle.std.specs.List.{list_any};
+ghost use Rattle.nt_topics.specs.Names.{is_special};
+ghost use Rattle.nt_table.specs.Topics.{is_named, restore_cause, restored as restored_in};
+ghost use Rattle.nt_server.specs.Lives.{topics, restored};
+ghost use Rattle.nt_server.specs.Saved.{IsSavedSet};
+
+use nt_table::{Saved, Table};
+use std::alloc::{AllocError, Global};
+
+/// Begins a saved topic that no cause refuses. It fails for want of memory alone.
+fn begin(alloc: Global, table: &mut Table, saved: Saved) -> Result<(), AllocError>
+    requires unnamed { list_any (is_named saved.name) table.old.topics ≡ false }
+    requires plain { is_special saved.name ≡ false }
+    requires counts { restore_cause table.old.topics table.old.next saved ≡ None }
+    ensures topics { OnOk result
+        (table.new.topics ≡ restored_in table.old.topics table.old.next saved) }
+    ensures next { OnOk result (table.new.next ≡ table.old.next + 1) }
+{
+    let _done = table.restore(alloc, saved)?;
+    Ok(())
+}
+
+/// The table of topics that were saved, with ids from 1 in the order of the list. It fails for want
+/// of memory alone.
+pub fn restored(alloc: Global, saved: Vec<Saved>) -> Result<Table, AllocError>
+    requires { IsSavedSet saved.items }
+    ensures topics { IfOk result (λ table. table.topics ≡ topics (restored 1 saved.items)) }
+    ensures next { IfOk result (λ table. table.next ≡ length saved.items + 1) }
+{
+    let mut table = Table::new(alloc);
+    for one in saved {
+        begin(alloc, &mut table, one)?;
+    }
+    Ok(table)
+}
