@@ -9,7 +9,7 @@ beside the size of the log.
 The program is the repository's, which the script `nt` builds first where needed, or PROGRAM. With --callgrind
 the script prints in place of the table where the program spends its instructions, on one log with a tenth of
 the values; that wants valgrind. What is built and written here lies in a temporary folder, and goes with it.
-bench/codec_timing.py takes its runs and its profiles from here too.
+bench/codec_timing.py and bench/desk take their runs and their profiles from here too.
 """
 
 import argparse
@@ -47,24 +47,26 @@ def compile_plain(folder, command):
     return path
 
 
-def built_program(log):
-    """The repository's program, after a run of `nt` that builds it if need be."""
-    subprocess.run([f"{TOP}/nt", "check", log], check=True, stdout=subprocess.DEVNULL)
+def built_program(*words):
+    """The repository's program, after a run of `nt` with these words that builds it if need be."""
+    subprocess.run([f"{TOP}/nt", *words], check=True, stdin=subprocess.DEVNULL, stdout=subprocess.DEVNULL)
     return f"{TOP}/crates/nt/out/nt"
 
 
 class Run:
-    """One run of a program: its wall time in seconds, and its peak memory in bytes.
+    """One run of a program: its wall time in seconds, and its peak memory in bytes. SOURCE is a file for its
+    standard input.
 
     The system counts from the moment at which this script starts the program, so no peak is below what the
     script itself holds then, some 15 MB. Logs of a million values take about as much and more.
     """
 
-    def __init__(self, words):
-        began = time.perf_counter()
-        child = subprocess.Popen(words, stdout=subprocess.DEVNULL)
-        _, status, usage = os.wait4(child.pid, 0)
-        self.seconds = time.perf_counter() - began
+    def __init__(self, words, source=os.devnull):
+        with open(source, "rb") as stdin:
+            began = time.perf_counter()
+            child = subprocess.Popen(words, stdin=stdin, stdout=subprocess.DEVNULL)
+            _, status, usage = os.wait4(child.pid, 0)
+            self.seconds = time.perf_counter() - began
         child.returncode = os.waitstatus_to_exitcode(status)
         if child.returncode:
             sys.exit(f"{' '.join(words)}: status {child.returncode}")
@@ -89,7 +91,7 @@ def print_table(folder, command, given):
         "shortest": make_log(folder, "shortest", given.values),
         "longest": make_log(folder, "longest", given.values, "--wide"),
     }
-    program = given.program or built_program(logs["shortest"])
+    program = given.program or built_program("check", logs["shortest"])
     commands = {"nt": [program, command], "plain": [compile_plain(folder, command)]}
     for fields, path in logs.items():
         compare(folder, commands, fields, path)
@@ -109,12 +111,14 @@ def print_table(folder, command, given):
         )
 
 
-def print_functions(folder, words):
-    """Prints the functions in which a run of these words spends its instructions."""
+def print_functions(folder, words, source=os.devnull):
+    """Prints the functions in which a run of these words spends its instructions, with this standard input."""
     want("valgrind")
     out = f"{folder}/callgrind.out"
     profiled = ["valgrind", "--tool=callgrind", f"--callgrind-out-file={out}", *words]
-    subprocess.run(profiled, check=True, stdout=subprocess.DEVNULL, stderr=subprocess.DEVNULL)
+    with open(source, "rb") as stdin:
+        quiet = subprocess.DEVNULL
+        subprocess.run(profiled, check=True, stdin=stdin, stdout=quiet, stderr=quiet)
     report = subprocess.run(["callgrind_annotate", out], check=True, capture_output=True, text=True).stdout
     counts = [line for line in report.splitlines() if "%)" in line]
     print(*counts[: FUNCTIONS + 1], sep="\n")
@@ -122,7 +126,7 @@ def print_functions(folder, words):
 
 def print_profile(folder, command, given):
     log = make_log(folder, "profile", given.values // 10)
-    program = given.program or built_program(log)
+    program = given.program or built_program("check", log)
     print(f"instructions of `nt {command}` on {given.values // 10} values, by function")
     print_functions(folder, [program, command, log])
 
