@@ -56,3 +56,11 @@ loop-desk-preserved g c =
       out_end = search rules;
       out_aside = search rules;
     }
+
+pub returns-in_err-status-clause-read : goal.returns-in_err-status-clause-read
+returns-in_err-status-clause-read g c = λ hears hearing err.
+    let so_far = c.loop-desk.invariant.goes_on hears hearing in
+    let rose = c.in_err-status.ensures.read hears hearing so_far.past so_far.sits in
+    let later = c.loop-desk.invariant.source_later in
+    let p = err_from_is_err_and c.from_residual-in_err-status.result c.from_residual-in_err-status.ensures.1 in
+    search rules
