@@ -17,4 +17,5 @@ mod weight;
 
 pub use batch::{Batch, Reply};
 pub use law::what_is_handed_is_owed_no_more;
+pub use nt_meta::MetaNow;
 pub use outbox::Outbox;

@@ -6,5 +6,5 @@ mod sub;
 mod wish;
 
 pub use set::{Added, SubSet};
-pub use sub::{Names, Options, Sub};
+pub use sub::{Names, Options, Sub, copy_names};
 pub use wish::Wanted;

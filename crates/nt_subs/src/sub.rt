@@ -54,7 +54,7 @@ impl Sub {
 }
 
 /// Equal names. It fails for want of memory alone.
-fn copy_names(alloc: Global, names: &Names) -> Result<Names, AllocError>
+pub fn copy_names(alloc: Global, names: &Names) -> Result<Names, AllocError>
     ensures { IfOk result (λ copied. copied ≡ names.now) }
 {
     let mut copied = Names::empty(alloc);

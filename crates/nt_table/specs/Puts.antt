@@ -22,7 +22,7 @@ abbrev pub greatest : List Put → Option Put
 greatest [] = None
 greatest (p ∷ ps) = Some (greater p (greatest ps))
 
--- of puts that stand newest first, those whose time isn't below that of an earlier one
+-- of puts that stand newest first, those whose time isn't below that of any earlier one
 abbrev pub taken : List Put → List Put
 taken [] = []
 taken (p ∷ ps) = if list_all (λ q. nat_le q.time p.time) ps then p ∷ taken ps else taken ps

@@ -6,7 +6,7 @@ ghost use Rattle.nt_table.specs.declared.topic.Topic.{Topic};
 ghost use Rattle.nt_table.specs.Puts.{Put, Sent, greatest, taken, newest, held, HasDifferentTimes, HasSameMembers, after_puts, fitting};
 
 /// Two lists of puts whose times are all different and that have the same members have the same
-/// greatest, in whatever order they came.
+/// greatest, in whatever order they stand.
 pub fn same_puts_hold_the_same()
     ensures { (ps qs : List Put) → HasDifferentTimes ps → HasSameMembers ps qs
         → greatest ps ≡ greatest qs }

@@ -1,7 +1,10 @@
 //! Topics, their publishers, and what happens to them.
 
+ghost use Rattle.std.specs.Prelude.{◌≡◌, IfOk};
+
 use nt_topics::{Name, Props, TopicName, TypeName, Update};
 use nt_values::{ListOf, Value};
+use std::alloc::{AllocError, Global};
 
 /// A publisher of a topic: its connection, its uid there, and the type that it publishes.
 #[derive(Debug, Drop)]
@@ -71,6 +74,47 @@ pub enum Change {
     },
 }
 
+impl Change {
+    /// An equal change. It fails for want of memory alone.
+    pub fn copy(&self, alloc: Global) -> Result<Change, AllocError>
+        ensures { IfOk result (λ change. change ≡ self.now) }
+    {
+        match self {
+            Change::Started {
+                id,
+                name,
+                typ,
+                props,
+            } => Ok(Change::Started {
+                id: *id,
+                name: name.copy(alloc)?,
+                typ: typ.copy(alloc)?,
+                props: props.copy()?,
+            }),
+            Change::Changed {
+                id,
+                name,
+                time,
+                value,
+            } => Ok(Change::Changed {
+                id: *id,
+                name: name.copy(alloc)?,
+                time: *time,
+                value: value.copy(alloc)?,
+            }),
+            Change::Props { id, name, update } => Ok(Change::Props {
+                id: *id,
+                name: name.copy(alloc)?,
+                update: update.copy()?,
+            }),
+            Change::Ended { id, name } => Ok(Change::Ended {
+                id: *id,
+                name: name.copy(alloc)?,
+            }),
+        }
+    }
+}
+
 /// Changes, in the order in which they come.
 pub type Changes = ListOf<Change>;
 
@@ -101,7 +145,7 @@ pub enum Cause {
     OtherType,
     /// The topic holds a value with a greater time.
     Older,
-    /// The connection has as many subscriptions as it may have.
+    /// With this one, the connection would have too many subscriptions, or too much text in their names.
     TooMany,
     /// The connection has fallen behind.
     Behind,

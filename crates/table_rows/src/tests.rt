@@ -44,7 +44,7 @@ fn change_line(alloc: Global, change: &Change) -> Result<String, AllocError> {
 fn changes_line(alloc: Global, changes: &[Change]) -> Result<String, AllocError> {
     let mut line = String::new(alloc);
     for change in changes {
-        line.push_str(change_line(alloc, change)?.as_str())?;
+        line.push_str(change_line(alloc, &change.copy(alloc)?)?.as_str())?;
     }
     Ok(line)
 }

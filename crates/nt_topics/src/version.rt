@@ -1,0 +1,8 @@
+//! Versions of the protocol.
+
+/// The version of the protocol that a connection speaks.
+#[derive(Clone, Copy, Debug, PartialEq, Eq)]
+pub enum Version {
+    /// NetworkTables 4.1.
+    V41,
+}
