@@ -194,7 +194,7 @@ fn frame_line(alloc: Global, frame: &Frame) -> Result<String, AllocError> {
 
 /// The frames of a batch, with a blank before each.
 fn batch_line(alloc: Global, batch: &Batch) -> Result<String, AllocError> {
-    let frames = frames_of(alloc, batch.texts.as_slice(), batch.values.as_slice())?;
+    let frames = frames_of(alloc, batch)?;
     let mut line = String::new(alloc);
     for frame in &frames {
         line.push(' ')?;

@@ -131,12 +131,11 @@ drain-batch : (past : List Entry) (now : ℕ) (before server : Kept) (b : Batch)
     → b ≡ batch past now
 drain-batch past now before server b o e sits s is = drained-same (fell_behind start past conn) (batch past now) b (sym (drain-out past now before server o e sits s) ∙ is)
 
-pub drain-lines : (past : List Entry) (now : ℕ) (before server : Kept) (b : Batch) (o : StepOut) (e : Entry) (texts : List ServerMsg) (values : List ValueMsg) (frames : List Frame) → Sits before past
-    → Steps start past worker now (act.Drain conn budget) o e server → o ≡ out.Drained b → texts ≡ b.texts → values ≡ b.values → frames ≡ frames_in texts values
+pub drain-lines : (past : List Entry) (now : ℕ) (before server : Kept) (b : Batch) (o : StepOut) (e : Entry) (frames : List Frame) → Sits before past
+    → Steps start past worker now (act.Drain conn budget) o e server → o ≡ out.Drained b → frames ≡ frames_in b
     → lines_of frames ≡ batch_lines (batch past now)
-drain-lines past now before server b o e texts values frames sits s is texts_are values_are frames_are =
-    let same : b ≡ batch past now = drain-batch past now before server b o e sits s is in
-    ap lines_of (frames_are ∙ ap (λ (t : List ServerMsg). frames_in t values) texts_are ∙ ap (λ (v : List ValueMsg). frames_in b.texts v) values_are) ∙ ap batch_lines same
+drain-lines past now before server b o e frames sits s is frames_are =
+    ap lines_of frames_are ∙ ap batch_lines (drain-batch past now before server b o e sits s is)
 
 -- or the connection fell behind, and nothing is owed
 none-owed_behind : (w : ℕ) (there : Bool) (fell : Option ℕ) (keys : List Key) → cond there fell None ≡ Some w → cond (there && is_none fell) keys [] ≡ []

@@ -141,7 +141,7 @@ lines_of fs = flat_map frame_line fs
 
 -- the frames of a batch, as lines
 abbrev pub batch_lines : Batch → List ℕ
-batch_lines b = lines_of (frames_in b.texts b.values)
+batch_lines b = lines_of (frames_in b)
 
 -- more drains than ever come: one hands at least one message
 abbrev pub most_drains : ℕ

@@ -142,7 +142,7 @@ fn drain<O: Sink>(
     let stepped = server.step(alloc, WORKER, moment, act)?;
     match &stepped.out {
         StepOut::Drained(batch) => {
-            let frames = frames_of(alloc, batch.texts.as_slice(), batch.values.as_slice())?;
+            let frames = frames_of(alloc, batch)?;
             print_frames(alloc, out, &frames)
         }
         // Nothing is handed to a connection that fell behind.

@@ -5,6 +5,7 @@ use Rattle.nt_frames.specs.declared.message.ValueMsg.{ValueMsg}
 use Rattle.nt_frames.specs.Frames.{spelling_of, frame_of}
 use Rattle.nt_control.specs.declared.message.ServerMsg.{ServerMsg}
 use Rattle.nt_control.specs.Frame.{server_text}
+use Rattle.nt_outbox.specs.declared.batch.Batch.{Batch}
 use Rattle.nt_link.specs.declared.frame.Frame.{Frame}
 use Rattle.nt_link.specs.declared.frame.Frame.TheVariants as frames
 
@@ -48,8 +49,8 @@ abbrev pub IsFit : Frame → Type 0
 IsFit frame = IsFitFor (bytes_in frame)
 
 -- the frames of a batch
-abbrev pub frames_in : List ServerMsg → List ValueMsg → List Frame
-frames_in texts values = text_frames texts ++ frames_behind [] values
+abbrev pub frames_in : Batch → List Frame
+frames_in batch = text_frames batch.texts ++ frames_behind [] batch.values
 
 -- the answer to a question for the server's time ("Timestamps"): the id of the clock, which is -1, the time,
 -- and the value that came

@@ -7,6 +7,7 @@ ghost use Rattle.nt_session.specs.Laid.{text_frames, frames_behind, frames_in, c
 use nt_control::{ServerMsg, write_server};
 use nt_frames::{ValueMsg, put_message};
 use nt_link::Frame;
+use nt_outbox::Batch;
 use nt_values::Bytes;
 use std::alloc::{AllocError, Global};
 use std::mem;
@@ -19,16 +20,12 @@ const MOST_BYTES: usize = 65_536;
 ///
 /// It fails for want of memory, and where a text, bytes or a list in a value has a length of 2^32
 /// or more, for which there is no spelling.
-pub fn frames_of(
-    alloc: Global,
-    texts: &[ServerMsg],
-    values: &[ValueMsg],
-) -> Result<Vec<Frame>, AllocError>
-    ensures { IfOk result (λ frames. frames.items ≡ frames_in texts.now values.now) }
+pub fn frames_of(alloc: Global, batch: &Batch) -> Result<Vec<Frame>, AllocError>
+    ensures { IfOk result (λ frames. frames.items ≡ frames_in batch.now) }
 {
     let mut frames = Vec::new(alloc);
-    add_texts(alloc, &mut frames, texts)?;
-    add_values(alloc, &mut frames, values)?;
+    add_texts(alloc, &mut frames, batch.texts.as_slice())?;
+    add_values(alloc, &mut frames, batch.values.as_slice())?;
     Ok(frames)
 }
 

@@ -3,9 +3,10 @@
 use nt_control::ServerMsg;
 use nt_frames::{ValueMsg, read_frame};
 use nt_link::Frame;
+use nt_outbox::Batch;
 use nt_session::{clock_answer, frames_of};
 use nt_topics::Name;
-use nt_values::{Bytes, Value};
+use nt_values::{Bytes, ListOf, Value};
 use std::alloc::{AllocError, Global};
 use std::test::Fail;
 
@@ -46,6 +47,15 @@ fn lengths(alloc: Global, frames: &[Frame]) -> Result<String, AllocError> {
         }
     }
     Ok(text)
+}
+
+/// How many bytes each frame of these values has.
+fn value_lengths(alloc: Global, values: Vec<ValueMsg>) -> Result<String, AllocError> {
+    let batch = Batch {
+        texts: ListOf::empty(alloc),
+        values: ListOf::of_vec(values),
+    };
+    lengths(alloc, &frames_of(alloc, &batch)?)
 }
 
 /// The answer at moment 2,000,000 to each question that a frame asks.
@@ -89,8 +99,12 @@ fn texts_go_before_values(rt: HostRuntime) -> Result<(), Fail> {
     let name = Name::of(alloc, "/a")?;
     let texts = vec![in alloc; ServerMsg::Unannounce { name, id: 1 }]?;
     let values = vec![in alloc; number(2, 7), number(3, -1)]?;
-    let none = lines(alloc, &frames_of(alloc, &[], &[])?)?;
-    let both = lines(alloc, &frames_of(alloc, &texts, &values)?)?;
+    let none = lines(alloc, &frames_of(alloc, &Batch::empty(alloc))?)?;
+    let both = Batch {
+        texts: ListOf::of_vec(texts),
+        values: ListOf::of_vec(values),
+    };
+    let both = lines(alloc, &frames_of(alloc, &both)?)?;
     let told = format!(in alloc; "{none}{both}")?;
     let expected = r#"[{"method":"unannounce","params":{"id":1,"name":"/a"}}]
 hex 94 02 0a 02 07 94 03 0a 02 ff
@@ -118,9 +132,9 @@ fn values_are_joined_up_to_65536_bytes(rt: HostRuntime) -> Result<(), Fail> {
     let most = vec![in alloc; raw(alloc, 32_761)?, raw(alloc, 32_761)?]?;
     let more = vec![in alloc; raw(alloc, 32_761)?, raw(alloc, 32_762)?]?;
     let large = vec![in alloc; number(1, 7), raw(alloc, 65_537)?, number(1, 7)]?;
-    let most = lengths(alloc, &frames_of(alloc, &[], &most)?)?;
-    let more = lengths(alloc, &frames_of(alloc, &[], &more)?)?;
-    let large = lengths(alloc, &frames_of(alloc, &[], &large)?)?;
+    let most = value_lengths(alloc, most)?;
+    let more = value_lengths(alloc, more)?;
+    let large = value_lengths(alloc, large)?;
     let told = format!(in alloc; "{most} {more} {large}")?;
     assert_eq!(rt; told.as_str(), "65536; 32768;32769; 5;65546;5;");
     Ok(())

@@ -17,7 +17,7 @@ pub returns-in-Drained-clause-prints : goal.returns-in-Drained-clause-prints
 returns-in-Drained-clause-prints g c = λ past sits.
     let step = c.in_ok-stepped.ensures.steps start past sits.stands in
     subst (λ (l : List ℕ). Prints l (g.O.Sink.taken c.args.out.now) (g.O.Sink.taken c.print_frames.new.out) c.print_frames.result)
-    (drain-lines past _ _ _ _ _ _ _ _ _ sits step c.in-Drained.is c.as_slice.ensures c.as_slice-in-Drained.ensures (c.deref.ensures.value ∙ c.in_ok-frames-in-Drained.ensures))
+    (drain-lines past _ _ _ _ _ _ _ sits step c.in-Drained.is (c.deref.ensures.value ∙ c.in_ok-frames-in-Drained.ensures))
     c.print_frames.ensures.prints
 
 pub returns-in-Drained-clause-sits : goal.returns-in-Drained-clause-sits
