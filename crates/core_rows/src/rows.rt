@@ -1,7 +1,7 @@
 //! Rows of acts, and what a server says to each of them, as a line.
 
 ghost use Rattle.std.specs.Prelude.{IfOk};
-ghost use Rattle.nt_server.specs.Step.{MayAct};
+ghost use Rattle.nt_history.specs.Step.{MayAct};
 
 use nt_control::ClientMsg;
 use nt_frames::ValueMsg;
@@ -11,7 +11,7 @@ use nt_server::{Act, Deed, Entry, Msg, Server, StepOut, Stepped};
 use nt_session::frames_of;
 use nt_subs::{Names, Options, Sub};
 use nt_table::Change;
-use nt_topics::{ClientName, Name, Props, TopicName, TypeName, Update};
+use nt_topics::{ClientName, Name, Props, TopicName, TypeName, Update, Version};
 use nt_values::{Text, Value};
 use std::alloc::{AllocError, Global};
 use std::test::Fail;
@@ -157,7 +157,10 @@ pub fn act_of(alloc: Global, call: &Call) -> Result<Act, Fail>
     match call {
         Call::Open(name) => {
             let name = ClientName::of(alloc, name)?;
-            Ok(Act::Open { name })
+            Ok(Act::Open {
+                name,
+                version: Version::V41,
+            })
         }
         Call::Publish(conn, uid, name, typ, props) => {
             publish(alloc, *conn, *uid, name, typ, props_of(alloc, props)?)

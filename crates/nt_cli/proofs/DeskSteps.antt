@@ -3,6 +3,7 @@ use Rattle.std.proofs.Common.{◌≡◌, ℕ, suc, zero, ◌+◌, ◌-◌, ◌<�
 use Rattle.std.proofs.lemmas.List.Elements.{filter_map-append}
 use Rattle.std.specs.Io.KnownBytes.{Appends}
 use Rattle.std.proofs.KnownBytes.{Appends-nil, Appends-trans}
+use Rattle.nt_topics.specs.declared.version.Version.TheVariants.{V41}
 use Rattle.nt_link.specs.Causes.{StaysAtEnd, Aside}
 use Rattle.nt_link.specs.declared.frame.Frame.{Frame}
 use Rattle.nt_frames.specs.declared.message.ValueMsg.{ValueMsg}
@@ -13,19 +14,19 @@ use Rattle.nt_subs.specs.Subscriptions.{Subs}
 use Rattle.nt_table.specs.declared.topic.Cause.TheVariants.{NoConn}
 use Rattle.nt_outbox.specs.declared.batch.Batch.{Batch}
 use Rattle.nt_outbox.specs.Keys.{Key}
-use Rattle.nt_server.specs.declared.act.Act.{Act}
-use Rattle.nt_server.specs.declared.act.Act.TheVariants as act
-use Rattle.nt_server.specs.declared.act.Msg.{Msg}
-use Rattle.nt_server.specs.declared.act.Msg.TheVariants.{Control, Put}
-use Rattle.nt_server.specs.declared.act.StepOut.{StepOut}
-use Rattle.nt_server.specs.declared.act.StepOut.TheVariants as out
-use Rattle.nt_server.specs.declared.act.Entry.{Entry}
-use Rattle.nt_server.specs.Lives.{Life}
-use Rattle.nt_server.specs.Now.{Now, Connection, now_of, is_conn, is_there, is_open_for, with_subs, connections_after, lives_after, is_traced, cause_of}
-use Rattle.nt_server.specs.Metas.{all_lives}
-use Rattle.nt_server.specs.Owed.{account, owed, keys_owed, behind as fell_behind, messages}
-use Rattle.nt_server.specs.Answer.{answer, entry, moment_of, drained_out}
-use Rattle.nt_server.specs.Step.{Kept, Stands, Steps}
+use Rattle.nt_history.specs.declared.act.Act.{Act}
+use Rattle.nt_history.specs.declared.act.Act.TheVariants as act
+use Rattle.nt_history.specs.declared.act.Msg.{Msg}
+use Rattle.nt_history.specs.declared.act.Msg.TheVariants.{Control, Put}
+use Rattle.nt_history.specs.declared.act.StepOut.{StepOut}
+use Rattle.nt_history.specs.declared.act.StepOut.TheVariants as out
+use Rattle.nt_history.specs.declared.act.Entry.{Entry}
+use Rattle.nt_history.specs.Lives.{Life}
+use Rattle.nt_history.specs.Now.{Now, Connection, now_of, is_conn, is_there, is_open_for, with_subs, connections_after, lives_after, is_traced, cause_of}
+use Rattle.nt_history.specs.Metas.{all_lives}
+use Rattle.nt_history.specs.Owed.{account, owed, keys_owed, behind as fell_behind, messages}
+use Rattle.nt_history.specs.Answer.{answer, entry, moment_of, drained_out}
+use Rattle.nt_history.specs.Step.{Kept, Stands, Steps}
 use Rattle.nt_cli.specs.declared.desk_output.DeskFault.{DeskFault}
 use Rattle.nt_cli.specs.Desk.{Hearing, is_empty, most_drains, start, worker, conn, budget, with_act, with_drain, opened, says, answer_to, answers_to, with_message, with_said, batch, batch_lines, lines_of, drained, behind_drains, round_text, last_text, behind_round}
 use Rattle.nt_cli.specs.DeskRun.{Sits, Prints}
@@ -304,13 +305,13 @@ last-some hears past number (b ∷ bytes) before now r some p = p
 
 -- ---- the opening
 
-opened-there : is_open_for (now_of start (with_act [] 0 (act.Open (codes "desk")))).connections worker conn ≡ true
+opened-there : is_open_for (now_of start (with_act [] 0 (act.Open (codes "desk") V41))).connections worker conn ≡ true
 unfolding with_act
 opened-there = refl
 
 -- a server that opened the connection has it open
-pub sits-opened : (server : Kept) (name : List ℕ) (o : StepOut) (e : Entry) → name ≡ codes "desk" → Steps start [] worker 0 (act.Open name) o e server → Sits server opened
+pub sits-opened : (server : Kept) (name : List ℕ) (o : StepOut) (e : Entry) → name ≡ codes "desk" → Steps start [] worker 0 (act.Open name V41) o e server → Sits server opened
 unfolding opened
 sits-opened server name o e is s =
-    let named : Steps start [] worker 0 (act.Open (codes "desk")) o e server = subst (λ (n : List ℕ). Steps start [] worker 0 (act.Open n) o e server) is s in
-    record { stands = entry-act [] 0 (act.Open (codes "desk")) o e server named; is_there = opened-there }
+    let named : Steps start [] worker 0 (act.Open (codes "desk") V41) o e server = subst (λ (n : List ℕ). Steps start [] worker 0 (act.Open n V41) o e server) is s in
+    record { stands = entry-act [] 0 (act.Open (codes "desk") V41) o e server named; is_there = opened-there }

@@ -4,8 +4,8 @@ use Rattle.std.proofs.lemmas.Bool.{false≢true}
 use Rattle.std.proofs.lemmas.List.{take-append-drop, length-take-le, take_all}
 use Rattle.std.specs.Io.KnownBytes.{Consumes, IsAtEnd, Appends}
 use Rattle.std.proofs.KnownBytes.{Consumes-nil, Consumes-trans, Appends-nil, Appends-trans}
-use Rattle.nt_server.specs.declared.act.Entry.{Entry}
-use Rattle.nt_server.specs.Step.{Kept}
+use Rattle.nt_history.specs.declared.act.Entry.{Entry}
+use Rattle.nt_history.specs.Step.{Kept}
 use Rattle.nt_cli.specs.declared.desk_output.DeskFault.{DeskFault}
 use Rattle.nt_cli.specs.declared.desk_output.DeskFault.TheVariants.{Memory, Read, Write}
 use Rattle.nt_cli.specs.Input.{most_bytes, piece_bytes}

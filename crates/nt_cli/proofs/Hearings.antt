@@ -7,9 +7,9 @@ use Rattle.nt_control.specs.Frame.{said_in}
 use Rattle.nt_frames.specs.declared.message.ValueMsg.{ValueMsg}
 use Rattle.nt_frames.specs.declared.message.FrameFault.{FrameFault}
 use Rattle.nt_frames.specs.Frames.{IsMessage, IsFrame, Means}
-use Rattle.nt_server.specs.declared.act.Msg.{Msg}
-use Rattle.nt_server.specs.declared.act.Msg.TheVariants.{Control, Put}
-use Rattle.nt_server.specs.Step.{IsPut}
+use Rattle.nt_history.specs.declared.act.Msg.{Msg}
+use Rattle.nt_history.specs.declared.act.Msg.TheVariants.{Control, Put}
+use Rattle.nt_history.specs.Step.{IsPut}
 use Rattle.nt_cli.specs.Hexadecimal.{is_binary, digits_in, hex_bytes}
 use Rattle.nt_cli.specs.Desk.{Hearing, IsHearing, most_value, values_in, says}
 

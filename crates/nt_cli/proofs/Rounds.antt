@@ -3,7 +3,7 @@ use Rattle.std.proofs.Common.{◌≡◌, ℕ, suc, ◌+◌, ◌-◌, ◌<◌, �
 use Rattle.std.proofs.Math.Seq.{take-append-add, take-append_seam}
 use Rattle.std.proofs.lemmas.Bool.{lt-ltb, le-ltb, cases_lt}
 use Rattle.std.proofs.lemmas.List.{take_all}
-use Rattle.nt_server.specs.declared.act.Entry.{Entry}
+use Rattle.nt_history.specs.declared.act.Entry.{Entry}
 use Rattle.nt_cli.specs.Lines.{too_long}
 use Rattle.nt_cli.specs.LineReading.{most_line, IsUnbroken}
 use Rattle.nt_cli.specs.Reply.{Reply}

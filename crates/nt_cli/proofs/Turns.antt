@@ -2,7 +2,7 @@
 use Rattle.std.proofs.Common.{◌≡◌, ℕ, ◌+◌, ◌≤◌, List}
 use Rattle.std.specs.declared.option.Option.{Option}
 use Rattle.nt_link.specs.Causes.{StaysAtEnd, Aside}
-use Rattle.nt_server.specs.Step.{Kept}
+use Rattle.nt_history.specs.Step.{Kept}
 use Rattle.nt_cli.specs.Input.{most_bytes}
 use Rattle.nt_cli.specs.LineReading.{Ahead}
 use Rattle.nt_cli.specs.DeskRun.{beginning, GoesOn}

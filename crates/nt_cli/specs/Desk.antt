@@ -6,6 +6,7 @@ use Rattle.std.specs.declared.option.Option.{Option}
 use Rattle.std.specs.declared.option.Option.TheVariants.{Some, None}
 use Rattle.std.specs.Io.KnownBytes.{Consumes, IsAtEnd}
 use Rattle.std.specs.Fmt.{decimal}
+use Rattle.nt_topics.specs.declared.version.Version.TheVariants.{V41}
 use Rattle.nt_link.specs.declared.frame.Frame.{Frame}
 use Rattle.nt_link.specs.declared.frame.Frame.TheVariants as frames
 use Rattle.nt_frames.specs.declared.message.ValueMsg.{ValueMsg}
@@ -14,15 +15,15 @@ use Rattle.nt_frames.specs.Frames.{Means}
 use Rattle.nt_control.specs.Frame.{said_in}
 use Rattle.nt_session.specs.Laid.{frames_in, clock_frame}
 use Rattle.nt_outbox.specs.declared.batch.Batch.{Batch}
-use Rattle.nt_server.specs.declared.act.Act.{Act}
-use Rattle.nt_server.specs.declared.act.Act.TheVariants as act
-use Rattle.nt_server.specs.declared.act.Msg.{Msg}
-use Rattle.nt_server.specs.declared.act.Msg.TheVariants.{Control, Put}
-use Rattle.nt_server.specs.declared.act.Entry.{Entry}
-use Rattle.nt_server.specs.Now.{Start, now_of}
-use Rattle.nt_server.specs.Metas.{all_lives}
-use Rattle.nt_server.specs.Owed.{owed, messages}
-use Rattle.nt_server.specs.Answer.{answer, entry, moment_of}
+use Rattle.nt_history.specs.declared.act.Act.{Act}
+use Rattle.nt_history.specs.declared.act.Act.TheVariants as act
+use Rattle.nt_history.specs.declared.act.Msg.{Msg}
+use Rattle.nt_history.specs.declared.act.Msg.TheVariants.{Control, Put}
+use Rattle.nt_history.specs.declared.act.Entry.{Entry}
+use Rattle.nt_history.specs.Now.{Start, now_of}
+use Rattle.nt_history.specs.Metas.{all_lives}
+use Rattle.nt_history.specs.Owed.{owed, messages}
+use Rattle.nt_history.specs.Answer.{answer, entry, moment_of}
 use Rattle.nt_cli.specs.Input.{most_bytes, piece_bytes}
 use Rattle.nt_cli.specs.Lines.{too_long}
 use Rattle.nt_cli.specs.LineReading.{most_line, is_feed}
@@ -99,7 +100,7 @@ with_act past now a = entry worker (moment_of (now_of start past) now) a (answer
 
 -- the connection opens at moment 0
 unfoldable pub opened : List Entry
-opened = with_act [] 0 (act.Open (codes "desk"))
+opened = with_act [] 0 (act.Open (codes "desk") V41)
 
 -- a question for the server's time, which is a value with the id -1, is answered at once, with this time
 abbrev pub answer_to : ℕ → Msg → Option Frame

@@ -1,9 +1,9 @@
 -- A desk at work: the history that its table stands for, and what it printed when it stopped.
 use Rattle.std.specs.Prelude.{◌≡◌, ◌≤◌, ℕ, ◌+◌, Bool, true, false, List, [], ◌++◌, length, Result, Ok, Err, Option, None, Some}
 use Rattle.std.specs.Io.KnownBytes.{Consumes, IsAtEnd, Appends}
-use Rattle.nt_server.specs.declared.act.Entry.{Entry}
-use Rattle.nt_server.specs.Now.{now_of, is_open_for}
-use Rattle.nt_server.specs.Step.{Kept, Stands}
+use Rattle.nt_history.specs.declared.act.Entry.{Entry}
+use Rattle.nt_history.specs.Now.{now_of, is_open_for}
+use Rattle.nt_history.specs.Step.{Kept, Stands}
 use Rattle.nt_cli.specs.declared.desk_output.DeskFault.{DeskFault}
 use Rattle.nt_cli.specs.declared.desk_output.DeskFault.TheVariants.{Memory, Read, Write}
 use Rattle.nt_cli.specs.LineReading.{Ahead}

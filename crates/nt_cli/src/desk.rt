@@ -3,7 +3,7 @@
 ghost use Rattle.std.specs.Prelude.{◌≡◌, ◌≢◌, ◌≤◌, ◌<◌, ◌+◌, ◌^◌, ◌⊎◌, List, [], ℕ, Some, None, IfOk, IsErrOf};
 ghost use Rattle.std.specs.Option.{ForSome};
 ghost use Rattle.nt_link.specs.Causes.{Rose, StaysAtEnd};
-ghost use Rattle.nt_server.specs.declared.act.Entry.{Entry};
+ghost use Rattle.nt_history.specs.declared.act.Entry.{Entry};
 ghost use Rattle.nt_cli.specs.Input.{most_bytes};
 ghost use Rattle.nt_cli.specs.Reply.{Reply, IsGiven, IsFront};
 ghost use Rattle.nt_cli.specs.Desk.{Hearing, IsHearing, opened, last_text, RepliesAtDesk, RepliesToTaken, DeskBegun, DeskBroken};

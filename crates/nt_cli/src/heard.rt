@@ -3,8 +3,8 @@
 ghost use Rattle.std.specs.Prelude.{◌≡◌, map, IfOk};
 ghost use Rattle.std.specs.List.{AllByRecursion};
 ghost use Rattle.nt_control.specs.Frame.{said_in};
-ghost use Rattle.nt_server.specs.declared.act.Msg.TheVariants as msg;
-ghost use Rattle.nt_server.specs.Step.{IsPut};
+ghost use Rattle.nt_history.specs.declared.act.Msg.TheVariants as msg;
+ghost use Rattle.nt_history.specs.Step.{IsPut};
 ghost use Rattle.nt_cli.specs.Hexadecimal.{hex_bytes as bytes_of};
 ghost use Rattle.nt_cli.specs.Desk.{Hearing, IsHearing, values_in, says};
 

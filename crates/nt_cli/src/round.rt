@@ -3,8 +3,8 @@
 ghost use Rattle.std.specs.Prelude.{◌≡◌, ◌≤◌, ◌<◌, ◌^◌, ◌++◌, List, [], ◌∷◌, IfOk, OnOk, IsErrOf};
 ghost use Rattle.std.specs.List.{AllByRecursion};
 ghost use Rattle.nt_link.specs.Causes.{Rose, StaysAtEnd};
-ghost use Rattle.nt_server.specs.declared.act.Entry.{Entry};
-ghost use Rattle.nt_server.specs.Step.{IsPut};
+ghost use Rattle.nt_history.specs.declared.act.Entry.{Entry};
+ghost use Rattle.nt_history.specs.Step.{IsPut};
 ghost use Rattle.nt_cli.specs.Desk.{Hearing, IsHearing, opened, most_drains, answer_to, answers_to, with_message, with_drain, with_said, batch, batch_lines, drained, behind_drains, round_text, behind_round};
 ghost use Rattle.nt_cli.specs.DeskRun.{Sits, Prints};
 
@@ -13,7 +13,7 @@ use crate::heard::said_by;
 use nt_link::{Frame, Sink};
 use nt_server::{Act, Msg, Server, StepOut};
 use nt_session::{clock_answer, frames_of};
-use nt_topics::ClientName;
+use nt_topics::{ClientName, Version};
 use std::alloc::{AllocError, Global};
 
 /// The worker that does all acts, and the number of its connection.
@@ -33,7 +33,15 @@ pub fn open_server(alloc: Global) -> Result<Server, AllocError>
     let Ok(name) = ClientName::of(alloc, "desk") else {
         return Err(AllocError);
     };
-    server.step(alloc, WORKER, 0, Act::Open { name })?;
+    server.step(
+        alloc,
+        WORKER,
+        0,
+        Act::Open {
+            name,
+            version: Version::V41,
+        },
+    )?;
     Ok(server)
 }
 

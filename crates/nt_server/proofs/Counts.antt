@@ -6,11 +6,11 @@ use Rattle.nt_table.specs.declared.topic.Change.{Change}
 use Rattle.nt_table.specs.declared.topic.Outcome.TheVariants.{Done}
 use Rattle.nt_table.specs.Topics.{Holds, if_counts}
 use Rattle.nt_table.specs.Changes.{outcome_of}
-use Rattle.nt_server.specs.declared.act.Msg.{Msg}
-use Rattle.nt_server.specs.declared.act.Msg.TheVariants.{Control, Put}
+use Rattle.nt_history.specs.declared.act.Msg.{Msg}
+use Rattle.nt_history.specs.declared.act.Msg.TheVariants.{Control, Put}
 use Rattle.nt_server.specs.declared.inner.Inner.{Inner}
-use Rattle.nt_server.specs.declared.open.Open.{Open}
-use Rattle.nt_server.specs.State.{is_number, serves, topics_said, metas_kept}
+use Rattle.nt_history.specs.declared.kept.Open.{Open}
+use Rattle.nt_history.specs.State.{is_number, serves, topics_said, metas_kept}
 use Rattle.nt_server.specs.View.{IsKept, IsKeptAt}
 use Rattle.nt_server.proofs.RosterRows.{metas_put}
 

@@ -8,8 +8,8 @@ use Rattle.nt_table.specs.declared.topic.Topic.{Topic}
 use Rattle.nt_table.specs.declared.topic.Saved.{Saved}
 use Rattle.nt_table.specs.Topics.{is_named, at_zero, restored_topic, restored as restored_in}
 use Rattle.nt_table.specs.Puts.{timed, greatest}
-use Rattle.nt_server.specs.Lives.{topics, topic_of, restored_life, restored_put, restored}
-use Rattle.nt_server.specs.Saved.{HasDistinctNames, IsRestorable, IsSavedSet}
+use Rattle.nt_history.specs.Lives.{topics, topic_of, restored_life, restored_put, restored}
+use Rattle.nt_history.specs.Saved.{HasDistinctNames, IsRestorable, IsSavedSet}
 
 -- the topics so far and those that follow are all that were saved
 pub record IsRestoring (ts : List Topic) (next : ℕ) (rest saved : List Saved) : Type 0 where

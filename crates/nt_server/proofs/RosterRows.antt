@@ -14,12 +14,12 @@ use Rattle.nt_meta.specs.declared.roster.LifeRow.{LifeRow}
 use Rattle.nt_meta.specs.declared.meta.MetaNow.{MetaNow}
 use Rattle.nt_meta.specs.Meta.{metas}
 use Rattle.nt_outbox.specs.Calls.{Box}
-use Rattle.nt_server.specs.declared.act.Msg.{Msg}
-use Rattle.nt_server.specs.declared.act.Msg.TheVariants.{Control, Put}
-use Rattle.nt_server.specs.declared.open.Open.{Open}
-use Rattle.nt_server.specs.declared.taken.Taken.{Taken}
-use Rattle.nt_server.specs.Metas.{life_row, sub_row, pub_row, by_uid}
-use Rattle.nt_server.specs.State.{is_number, with_outbox, open_row, metas_kept, differences, told_differences, refreshed, rewanted_all, meta_rewanted_all, rewanting, told_changes, told_sender, told_said, drained_by, drained_from}
+use Rattle.nt_history.specs.declared.act.Msg.{Msg}
+use Rattle.nt_history.specs.declared.act.Msg.TheVariants.{Control, Put}
+use Rattle.nt_history.specs.declared.kept.Open.{Open}
+use Rattle.nt_history.specs.declared.kept.Taken.{Taken}
+use Rattle.nt_history.specs.Metas.{life_row, sub_row, pub_row, by_uid}
+use Rattle.nt_history.specs.State.{is_number, with_outbox, open_row, metas_kept, differences, told_differences, refreshed, rewanted_all, meta_rewanted_all, rewanting, told_changes, told_sender, told_said, drained_by, drained_from}
 
 -- a change of each connection that its row doesn't tell of
 rows_same : (ts : List Topic) (f : Open → Open) → ((o : Open) → open_row ts (f o) ≡ open_row ts o)

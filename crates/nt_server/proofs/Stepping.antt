@@ -1,23 +1,23 @@
 -- What a step answers, by what its arms do to what is kept.
 use Rattle.std.proofs.Common.{◌≡◌, ◌<◌, ◌+◌, ◌^◌, ℕ, Bool, true, false, max, List, [], Result, Ok, Err, IfOk, OnOk, length, refl, sym, ap, subst, ◌∙◌}
 use Rattle.std.specs.Result.{is_err}
-use Rattle.nt_server.specs.declared.act.Act.{Act}
-use Rattle.nt_server.specs.declared.act.Entry.{Entry}
+use Rattle.nt_history.specs.declared.act.Act.{Act}
+use Rattle.nt_history.specs.declared.act.Entry.{Entry}
 use Rattle.nt_server.specs.declared.step.Stepped.{Stepped}
 use Rattle.nt_table.specs.declared.topic.Topic.{Topic}
 use Rattle.nt_table.specs.declared.topic.Saved.{Saved}
-use Rattle.nt_server.specs.Lives.{topics, restored}
-use Rattle.nt_server.specs.Now.{Start, beginning}
-use Rattle.nt_server.specs.Saved.{IsSavedSet}
+use Rattle.nt_history.specs.Lives.{topics, restored}
+use Rattle.nt_history.specs.Now.{Start, beginning}
+use Rattle.nt_history.specs.Saved.{IsSavedSet}
 use Rattle.nt_server.specs.View.{begun}
-use Rattle.nt_server.specs.Answer.{entry}
-use Rattle.nt_server.specs.Changes.{added_changes}
-use Rattle.nt_server.specs.State.{reply, acted, changes_by}
-use Rattle.nt_server.specs.Step.{Kept, Core, Stands, Steps, MayAct, core_of}
-use Rattle.nt_server.proofs.CoreLaws.{core-begun}
-use Rattle.nt_server.proofs.StepLaw.{stands-begun}
-use Rattle.nt_server.proofs.Looked.{looked-changes}
-use Rattle.nt_server.proofs.Owing.{step-acted}
+use Rattle.nt_history.specs.Answer.{entry}
+use Rattle.nt_history.specs.Changes.{added_changes}
+use Rattle.nt_history.specs.State.{reply, acted, changes_by}
+use Rattle.nt_history.specs.Step.{Kept, Core, Stands, Steps, MayAct, core_of}
+use Rattle.nt_history.proofs.CoreLaws.{core-begun}
+use Rattle.nt_history.proofs.StepLaw.{stands-begun}
+use Rattle.nt_history.proofs.Looked.{looked-changes}
+use Rattle.nt_history.proofs.Owing.{step-acted}
 
 -- a server over restored topics stands for no entries
 pub stands-over : (permits : ℕ) (saved : List Saved) (ts : List Topic) (next : ℕ) (k : Kept) → IsSavedSet saved

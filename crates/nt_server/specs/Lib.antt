@@ -1,12 +1,2 @@
-pub mod Lives
-pub mod Now
-pub mod Metas
-pub mod Owed
-pub mod Answer
-pub mod Marks
-pub mod State
-pub mod Step
 pub mod Rows
 pub mod View
-pub mod Saved
-pub mod Changes

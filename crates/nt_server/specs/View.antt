@@ -5,13 +5,13 @@ use Rattle.nt_table.specs.declared.topic.Change.{Change}
 use Rattle.nt_table.specs.declared.topic.Saved.{Saved}
 use Rattle.nt_table.specs.declared.topic.Outcome.{Outcome}
 use Rattle.nt_table.specs.declared.topic.Outcome.TheVariants.{Done, Ignored}
-use Rattle.nt_server.specs.declared.act.StepOut.{StepOut}
-use Rattle.nt_server.specs.declared.act.StepOut.TheVariants as out
-use Rattle.nt_server.specs.declared.act.Msg.{Msg}
-use Rattle.nt_server.specs.declared.act.Msg.TheVariants.{Control, Put}
+use Rattle.nt_history.specs.declared.act.StepOut.{StepOut}
+use Rattle.nt_history.specs.declared.act.StepOut.TheVariants as out
+use Rattle.nt_history.specs.declared.act.Msg.{Msg}
+use Rattle.nt_history.specs.declared.act.Msg.TheVariants.{Control, Put}
 use Rattle.nt_server.specs.declared.inner.Inner.{Inner}
-use Rattle.nt_server.specs.Lives.{topics, restored}
-use Rattle.nt_server.specs.State.{State, metas_kept}
+use Rattle.nt_history.specs.Lives.{topics, restored}
+use Rattle.nt_history.specs.State.{State, metas_kept}
 
 -- the state that the fields hold
 abbrev pub state_of : Inner → State

@@ -3,23 +3,13 @@
 ghost use Rattle.std.specs.Prelude.{◌≡◌, ◌++◌, ◌≤◌, List, drop, length, map, IfOk, OnOk};
 ghost use Rattle.nt_subs.specs.Wishes.{wanted};
 ghost use Rattle.nt_meta.specs.declared.meta.MetaNow.{MetaNow};
-ghost use Rattle.nt_server.specs.State.{difference_of, differences_from, differences, told_difference, told_differences};
+ghost use Rattle.nt_history.specs.State.{difference_of, differences_from, differences, told_difference, told_differences};
 
+use nt_history::Difference;
 use nt_meta::MetaNow;
 use nt_outbox::Outbox;
 use nt_subs::{SubSet, Wanted};
 use std::alloc::{AllocError, Global};
-
-/// What became of a meta topic.
-#[derive(Debug, Drop)]
-pub enum Difference {
-    /// It began.
-    Began(MetaNow),
-    /// Its bytes changed.
-    Changed(MetaNow),
-    /// The one of this id ended.
-    Ended(u32),
-}
 
 /// An equal meta topic. It fails for want of memory alone.
 fn copy_of(alloc: Global, meta: &MetaNow) -> Result<MetaNow, AllocError>

@@ -3,11 +3,10 @@
 ghost use Rattle.std.specs.Prelude.{◌≡◌, ◌≤◌, true, map, IfOk, OnOk};
 ghost use Rattle.std.specs.List.{list_any};
 ghost use Rattle.nt_outbox.specs.Calls.{behind, drained_batch};
-ghost use Rattle.nt_server.specs.Answer.{drained_out};
-ghost use Rattle.nt_server.specs.State.{is_number, outbox_at, with_outbox, drained_by, drained_from};
+ghost use Rattle.nt_history.specs.Answer.{drained_out};
+ghost use Rattle.nt_history.specs.State.{is_number, outbox_at, with_outbox, drained_by, drained_from};
 
-use crate::act::StepOut;
-use crate::open::Open;
+use nt_history::{Open, StepOut};
 use nt_meta::MetaNow;
 use nt_table::{Cause, Table};
 use std::alloc::{AllocError, Global};

@@ -3,12 +3,11 @@
 ghost use Rattle.std.specs.Prelude.{◌≡◌, [], map, IfOk, OnOk};
 ghost use Rattle.nt_table.specs.Changes.{outcome_of};
 ghost use Rattle.nt_subs.specs.Subscriptions.{with_sub, without_sub};
-ghost use Rattle.nt_server.specs.Now.{said_cause, subscribe_cause, unsubscribe_cause};
-ghost use Rattle.nt_server.specs.State.{subs_at, told_said, taken_after, changes_said, if_structural, if_taken, counted, subscribed, said_to};
-ghost use Rattle.nt_server.specs.Step.{IsPut};
+ghost use Rattle.nt_history.specs.Now.{said_cause, subscribe_cause, unsubscribe_cause};
+ghost use Rattle.nt_history.specs.State.{subs_at, told_said, taken_after, changes_said, if_structural, if_taken, counted, subscribed, said_to};
+ghost use Rattle.nt_history.specs.Step.{IsPut};
 ghost use Rattle.nt_server.specs.View.{state_of, IsKept, IsKeptAt, IsToTopic};
 
-use crate::act::Msg;
 use crate::inner::Inner;
 use crate::refresh::refresh;
 use crate::rewant::{subs_at, subscribe, without_sub};
@@ -16,6 +15,7 @@ use crate::said::say;
 use crate::taken::take_changes;
 use crate::told::tell_said;
 use nt_control::ClientMsg;
+use nt_history::Msg;
 use nt_subs::{Added, Sub, SubSet};
 use nt_table::{Cause, Change, Changes, Outcome};
 use std::alloc::{AllocError, Global};

@@ -1,7 +1,6 @@
 //! What a server keeps.
 
-use crate::open::Open;
-use crate::taken::Taken;
+use nt_history::{Open, Taken};
 use nt_meta::Metas;
 use nt_table::Table;
 

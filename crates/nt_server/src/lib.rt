@@ -1,14 +1,12 @@
 //! The server: each act of each connection is one entry of one history.
 #![tactic(auto)]
 
-mod act;
 mod difference;
 mod drain;
 mod hear;
 mod inner;
 mod look;
 mod names;
-mod open;
 mod refresh;
 mod restore;
 mod rewant;
@@ -20,7 +18,6 @@ mod step;
 mod taken;
 mod told;
 
-pub use act::{Act, Deed, Entry, Msg, StepOut};
-pub use open::Open;
+pub use nt_history::{Act, Deed, Entry, Msg, StepOut};
 pub use server::Server;
 pub use step::Stepped;

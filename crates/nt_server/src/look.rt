@@ -2,9 +2,9 @@
 
 ghost use Rattle.std.specs.Prelude.{◌≡◌, ◌-◌, ◌^◌, length, min};
 ghost use Rattle.nt_outbox.specs.Calls.{behind, keys_of, weight_of};
-ghost use Rattle.nt_server.specs.State.{outbox_at};
+ghost use Rattle.nt_history.specs.State.{outbox_at};
 
-use crate::open::Open;
+use nt_history::Open;
 
 /// How many messages a connection is owed: none where it isn't open.
 pub fn pending(opens: &[Open], conn: u32) -> u64

@@ -2,11 +2,11 @@
 
 ghost use Rattle.std.specs.Prelude.{◌≡◌, map, OnOk};
 ghost use Rattle.nt_subs.specs.Wishes.{wanted};
-ghost use Rattle.nt_server.specs.State.{with_outbox, metas_kept, differences, told_differences, refreshed};
+ghost use Rattle.nt_history.specs.State.{with_outbox, metas_kept, differences, told_differences, refreshed};
 
 use crate::difference::{differences, tell_differences};
-use crate::open::Open;
 use crate::roster::metas_of;
+use nt_history::Open;
 use nt_meta::{MetaNow, Metas};
 use nt_table::Table;
 use std::alloc::{AllocError, Global};

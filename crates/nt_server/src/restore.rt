@@ -4,8 +4,8 @@ ghost use Rattle.std.specs.Prelude.{◌≡◌, ◌+◌, false, None, length, IfO
 ghost use Rattle.std.specs.List.{list_any};
 ghost use Rattle.nt_topics.specs.Names.{is_special};
 ghost use Rattle.nt_table.specs.Topics.{is_named, restore_cause, restored as restored_in};
-ghost use Rattle.nt_server.specs.Lives.{topics, restored};
-ghost use Rattle.nt_server.specs.Saved.{IsSavedSet};
+ghost use Rattle.nt_history.specs.Lives.{topics, restored};
+ghost use Rattle.nt_history.specs.Saved.{IsSavedSet};
 
 use nt_table::{Saved, Table};
 use std::alloc::{AllocError, Global};

@@ -4,12 +4,12 @@ ghost use Rattle.std.specs.Prelude.{◌≡◌, Some, None, if◌then◌else◌, 
 ghost use Rattle.nt_subs.specs.Subscriptions.{has_uid, without_sub};
 ghost use Rattle.nt_subs.specs.Wishes.{wanted};
 ghost use Rattle.nt_outbox.specs.Calls.{rewanted_to};
-ghost use Rattle.nt_server.specs.State.{subs_at, taken_at, rewanted_all, meta_rewanted_all, with_subs_of, rewanting, with_outbox, metas_kept, refreshed};
+ghost use Rattle.nt_history.specs.State.{subs_at, taken_at, rewanted_all, meta_rewanted_all, with_subs_of, rewanting, with_outbox, metas_kept, refreshed};
 
-use crate::open::Open;
 use crate::refresh::tell_metas;
 use crate::roster::metas_of;
-use crate::taken::{Taken, taken_at};
+use crate::taken::taken_at;
+use nt_history::{Open, Taken};
 use nt_meta::{MetaNow, Metas};
 use nt_outbox::Outbox;
 use nt_subs::SubSet;

@@ -3,14 +3,13 @@
 ghost use Rattle.std.specs.Prelude.{◌≡◌, [], IfOk, OnOk};
 ghost use Rattle.nt_table.specs.Topics.{if_counts};
 ghost use Rattle.nt_table.specs.Changes.{outcome_of};
-ghost use Rattle.nt_server.specs.Now.{said_cause};
-ghost use Rattle.nt_server.specs.State.{topics_said, next_said, changes_said, serves};
-ghost use Rattle.nt_server.specs.Step.{IsPut};
+ghost use Rattle.nt_history.specs.Now.{said_cause};
+ghost use Rattle.nt_history.specs.State.{topics_said, next_said, changes_said, serves};
+ghost use Rattle.nt_history.specs.Step.{IsPut};
 ghost use Rattle.nt_server.specs.View.{IsToTopic};
 
-use crate::act::Msg;
-use crate::open::Open;
 use nt_control::ClientMsg;
+use nt_history::{Msg, Open};
 use nt_table::{Outcome, Table};
 use std::alloc::{AllocError, Global};
 

@@ -3,7 +3,7 @@
 ghost use Rattle.std.specs.Prelude.{◌≡◌, [], ◌∷◌, ◌++◌, option_map, IfOk, OnOk};
 ghost use Rattle.std.specs.Ordering.{nat_cmp};
 ghost use Rattle.std.specs.Cmp.Lexicographic.{slice_cmp};
-ghost use Rattle.nt_server.specs.Saved.{saved_topic, persistent_ones, AreSaved};
+ghost use Rattle.nt_history.specs.Saved.{saved_topic, persistent_ones, AreSaved};
 
 use nt_table::{Saved, Table, Timed, Topic};
 use nt_values::Value;

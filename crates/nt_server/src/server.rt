@@ -1,22 +1,22 @@
 //! The server.
 
 ghost use Rattle.std.specs.Prelude.{◌≡◌, ◌<◌, ◌^◌, true, false, List, [], length, IfOk, OnOk, OnErr};
-ghost use Rattle.nt_server.specs.declared.act.Entry.{Entry};
-ghost use Rattle.nt_server.specs.Changes.{added_changes};
-ghost use Rattle.nt_server.specs.Lives.{topics};
-ghost use Rattle.nt_server.specs.Now.{Start, now_of};
-ghost use Rattle.nt_server.specs.Owed.{owed, queued, behind};
-ghost use Rattle.nt_server.specs.Saved.{IsSavedSet, AreSaved};
-ghost use Rattle.nt_server.specs.Step.{MayAct, Stands, Steps, IsEntryOf};
+ghost use Rattle.nt_history.specs.declared.act.Entry.{Entry};
+ghost use Rattle.nt_history.specs.Changes.{added_changes};
+ghost use Rattle.nt_history.specs.Lives.{topics};
+ghost use Rattle.nt_history.specs.Now.{Start, now_of};
+ghost use Rattle.nt_history.specs.Owed.{owed, queued, behind};
+ghost use Rattle.nt_history.specs.Saved.{IsSavedSet, AreSaved};
+ghost use Rattle.nt_history.specs.Step.{MayAct, Stands, Steps, IsEntryOf};
 ghost use Rattle.nt_server.specs.View.{begun};
 
-use crate::act::Act;
 use crate::inner::Inner;
 use crate::look::{fell_behind, pending, queued};
 use crate::restore::restored;
 use crate::roster::metas_of;
 use crate::saved::saved_of;
 use crate::step::Stepped;
+use nt_history::Act;
 use nt_table::{Saved, Table};
 use std::alloc::{AllocError, Global};
 use std::marker::Model;
@@ -31,7 +31,7 @@ pub struct Server {
 
 impl Model for Server {
     ghost use Rattle.std.specs.Prelude.{◌≡◌, false};
-    ghost use Rattle.nt_server.specs.Step.{Kept};
+    ghost use Rattle.nt_history.specs.Step.{Kept};
     ghost use Rattle.nt_topics.specs.contracts.properties.Props as props;
     ghost use Rattle.std.specs.Coded.{codes};
 

@@ -3,24 +3,23 @@
 ghost use Rattle.std.specs.Prelude.{◌≡◌, ◌≤◌, ◌<◌, ◌+◌, true, [], ◌∷◌, ◌++◌, filter, map, max, not, if◌then◌else◌, IfOk, OnOk};
 ghost use Rattle.nt_table.specs.Changes.{outcome_of, drop_changes};
 ghost use Rattle.nt_outbox.specs.Calls.{nothing_owed};
-ghost use Rattle.nt_server.specs.Answer.{entry, drained_batch};
-ghost use Rattle.nt_server.specs.State.{is_number, serves, metas_kept, refreshed, cause_at, changes_said, if_taken, said_to, closed_by, drained_from, drained_answer, may_grant, acted_at, acted, reply, changes_by};
-ghost use Rattle.nt_server.specs.Step.{IsPut, MayAct};
+ghost use Rattle.nt_history.specs.Answer.{entry, drained_batch};
+ghost use Rattle.nt_history.specs.State.{is_number, serves, metas_kept, refreshed, cause_at, changes_said, if_taken, said_to, closed_by, drained_from, drained_answer, may_grant, acted_at, acted, reply, changes_by};
+ghost use Rattle.nt_history.specs.Step.{IsPut, MayAct};
 ghost use Rattle.nt_server.specs.View.{state_of, IsKept, out_of, changes_of};
 
-use crate::act::{Act, Deed, Entry, Msg, StepOut};
 use crate::drain::drain;
 use crate::inner::Inner;
 use crate::names::given_name;
-use crate::open::Open;
 use crate::refresh::refresh;
 use crate::said::serves;
 use crate::taken::take_changes;
 use crate::told::tell_all;
+use nt_history::{Act, Deed, Entry, Msg, Open, StepOut};
 use nt_outbox::{Batch, Outbox};
 use nt_subs::SubSet;
 use nt_table::{Cause, Changes, Outcome};
-use nt_topics::{ClientName, Name};
+use nt_topics::{ClientName, Name, Version};
 use std::alloc::{AllocError, Global};
 
 /// The last number of a connection.
@@ -104,14 +103,15 @@ impl Inner {
         place: u64,
         moment: u64,
         name: &ClientName,
+        version: Version,
     ) -> Result<Stepped, AllocError>
         requires { IsKept self.old }
         ensures out { IfOk result
-            (λ s. s.out ≡ reply (state_of self.old) worker moment (Act.Open name.now)) }
-        ensures entry { IfOk result (λ s. s.entry ≡ entry worker moment (Act.Open name.now) s.out) }
+            (λ s. s.out ≡ reply (state_of self.old) worker moment (Act.Open name.now version)) }
+        ensures entry { IfOk result (λ s. s.entry ≡ entry worker moment (Act.Open name.now version) s.out) }
         ensures changes { IfOk result (λ s. s.changes ≡ []) }
         ensures state { OnOk result
-            (state_of self.new ≡ acted_at (state_of self.old) place worker (Act.Open name.now)) }
+            (state_of self.new ≡ acted_at (state_of self.old) place worker (Act.Open name.now version)) }
         ensures kept { OnOk result (IsKept self.new) }
     {
         if self.opened >= LAST_CONNECTION {
@@ -406,7 +406,7 @@ impl Inner {
     {
         let moment = self.moment.max(now);
         match act {
-            Act::Open { name } => self.open(alloc, worker, place, moment, &name),
+            Act::Open { name, version } => self.open(alloc, worker, place, moment, &name, version),
             Act::Said { conn, msg } => self.said(alloc, worker, place, moment, conn, msg),
             Act::Drain { conn, budget } => self.drain(alloc, worker, moment, conn, budget),
             Act::Close { conn } => self.close(alloc, worker, place, moment, conn),

@@ -2,17 +2,11 @@
 
 ghost use Rattle.std.specs.Prelude.{◌≡◌, ◌<◌, ◌≤◌, ◌==◌, filter, insert, length, not, slice_set, MatchResult, OnOk};
 ghost use Rattle.nt_outbox.specs.Calls.{id_of};
-ghost use Rattle.nt_server.specs.State.{taken_at, with_taken, without_taken, taken_by, taken_after};
+ghost use Rattle.nt_history.specs.State.{taken_at, with_taken, without_taken, taken_by, taken_after};
 
+use nt_history::Taken;
 use nt_table::Change;
 use std::alloc::AllocError;
-
-/// The place of the entry at which the value that a topic holds was taken.
-#[derive(Clone, Copy, Debug, PartialEq, Eq)]
-pub struct Taken {
-    pub topic: u32,
-    pub place: u64,
-}
 
 /// The place at which the value of a topic was taken, and 0 where none was.
 pub fn taken_at(taken: &[Taken], id: u32) -> u64

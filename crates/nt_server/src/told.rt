@@ -4,11 +4,10 @@ ghost use Rattle.std.specs.Prelude.{◌≡◌, filter, map, OnOk};
 ghost use Rattle.std.specs.List.{find};
 ghost use Rattle.nt_subs.specs.Wishes.{wanted};
 ghost use Rattle.nt_table.specs.Topics.{is_named};
-ghost use Rattle.nt_server.specs.State.{name_in, is_end, noted_all, told_changes, published_to, set_to, told_sender, told_said};
+ghost use Rattle.nt_history.specs.State.{name_in, is_end, noted_all, told_changes, published_to, set_to, told_sender, told_said};
 
-use crate::act::Msg;
-use crate::open::Open;
 use nt_control::ClientMsg;
+use nt_history::{Msg, Open};
 use nt_outbox::{Outbox, Reply};
 use nt_subs::{SubSet, Wanted};
 use nt_table::{Change, Table};

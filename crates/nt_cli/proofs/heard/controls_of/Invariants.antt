@@ -1,5 +1,5 @@
 use Rattle.std.proofs.Common.{◌≡◌, map}
-use Rattle.nt_server.specs.declared.act.Msg.TheVariants.{Control}
+use Rattle.nt_history.specs.declared.act.Msg.TheVariants.{Control}
 use Rattle.nt_cli.proofs.heard.controls_of.Given as goal
 
 abbrev pub invariant-loop-msg : goal.invariant-loop-msg

@@ -2,7 +2,7 @@ use Rattle.std.proofs.Common.{List, Err, subst}
 use Rattle.std.specs.Io.KnownBytes.{Appends}
 use Rattle.std.proofs.lemmas.Result.{err_from_is_err_and, on_ok_weaker}
 use Rattle.nt_link.specs.declared.frame.Frame.{Frame}
-use Rattle.nt_server.specs.declared.act.Entry.{Entry}
+use Rattle.nt_history.specs.declared.act.Entry.{Entry}
 use Rattle.nt_cli.specs.Desk.{lines_of}
 use Rattle.nt_cli.specs.DeskRun.{Sits, Prints}
 use Rattle.nt_cli.proofs.DeskSteps.{round-prints, round-stopped, behind_round-is}

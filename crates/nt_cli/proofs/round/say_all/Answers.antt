@@ -1,6 +1,6 @@
 use Rattle.std.proofs.Common.{List, sym, ◌∙◌, ap, subst, ◌++◌, [], ◌∷◌}
 use Rattle.nt_link.specs.declared.frame.Frame.{Frame}
-use Rattle.nt_server.specs.declared.act.Entry.{Entry}
+use Rattle.nt_history.specs.declared.act.Entry.{Entry}
 use Rattle.nt_cli.specs.Desk.{answers_to}
 use Rattle.nt_cli.specs.DeskRun.{Sits}
 use Rattle.nt_cli.proofs.DeskSteps.{with_said-none, with_said-push, answers-push}

@@ -1,5 +1,5 @@
 use Rattle.std.proofs.Common.{◌≡◌, List}
-use Rattle.nt_server.specs.declared.act.Entry.{Entry}
+use Rattle.nt_history.specs.declared.act.Entry.{Entry}
 use Rattle.nt_cli.specs.Desk.{with_said, answers_to}
 use Rattle.nt_cli.specs.DeskRun.{Sits}
 use Rattle.nt_cli.proofs.round.say_all.Given as goal

@@ -1,5 +1,5 @@
 use Rattle.std.proofs.Common.{◌≡◌, ◌≤◌, ◌++◌, drop, length}
-use Rattle.nt_server.specs.State.{differences}
+use Rattle.nt_history.specs.State.{differences}
 use Rattle.nt_server.proofs.difference.differences.Given as goal
 
 -- what was found and what is different of the rest is all

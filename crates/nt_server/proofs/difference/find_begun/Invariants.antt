@@ -1,5 +1,5 @@
 use Rattle.std.proofs.Common.{◌≡◌, ◌++◌, drop, map}
-use Rattle.nt_server.specs.State.{Began}
+use Rattle.nt_history.specs.declared.kept.Difference.TheVariants.{Began}
 use Rattle.nt_server.proofs.difference.find_begun.Given as goal
 
 -- those found and those that follow are all

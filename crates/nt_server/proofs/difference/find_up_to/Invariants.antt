@@ -1,6 +1,7 @@
 use Rattle.std.proofs.Common.{◌≡◌, ◌++◌, List, drop}
 use Rattle.nt_meta.specs.declared.meta.MetaNow.{MetaNow}
-use Rattle.nt_server.specs.State.{Difference, differences_from}
+use Rattle.nt_history.specs.declared.kept.Difference.{Difference}
+use Rattle.nt_history.specs.State.{differences_from}
 use Rattle.nt_server.proofs.difference.find_up_to.Given as goal
 
 -- what was found and what is different from here on is all

@@ -1,6 +1,6 @@
 use Rattle.std.proofs.Common.{◌≡◌, drop}
 use Rattle.nt_subs.specs.Wishes.{wanted}
-use Rattle.nt_server.specs.State.{told_differences}
+use Rattle.nt_history.specs.State.{told_differences}
 use Rattle.nt_server.proofs.difference.tell_differences.Given as goal
 
 -- the differences that follow do to the outbox what all do to the one at the start

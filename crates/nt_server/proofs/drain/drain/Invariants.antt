@@ -2,8 +2,8 @@ use Rattle.std.proofs.Common.{◌≡◌, ◌++◌, true, drop, take, map}
 use Rattle.std.specs.Option.{MatchOption}
 use Rattle.std.specs.List.{list_any}
 use Rattle.nt_outbox.specs.Calls.{behind, drained_batch}
-use Rattle.nt_server.specs.Answer.{drained_out}
-use Rattle.nt_server.specs.State.{is_number, outbox_at, drained_from}
+use Rattle.nt_history.specs.Answer.{drained_out}
+use Rattle.nt_history.specs.State.{is_number, outbox_at, drained_from}
 use Rattle.nt_server.proofs.drain.drain.Given as goal
 
 -- the connections passed were drained, and the first of the number gave the answer

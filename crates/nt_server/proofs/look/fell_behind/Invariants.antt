@@ -1,5 +1,5 @@
 use Rattle.std.proofs.Common.{◌≡◌, drop}
-use Rattle.nt_server.specs.State.{outbox_at}
+use Rattle.nt_history.specs.State.{outbox_at}
 use Rattle.nt_server.proofs.look.fell_behind.Given as goal
 
 -- it is among those that follow

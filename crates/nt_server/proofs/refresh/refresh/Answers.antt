@@ -1,6 +1,6 @@
 use Rattle.std.proofs.Common.{◌∙◌, sym, ap, List}
-use Rattle.nt_server.specs.declared.open.Open.{Open}
-use Rattle.nt_server.specs.State.{metas_kept}
+use Rattle.nt_history.specs.declared.kept.Open.{Open}
+use Rattle.nt_history.specs.State.{metas_kept}
 use Rattle.nt_server.proofs.RosterRows.{metas_told}
 use Rattle.nt_server.proofs.refresh.refresh.Goals as goal
 

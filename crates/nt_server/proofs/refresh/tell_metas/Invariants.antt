@@ -1,6 +1,6 @@
 use Rattle.std.proofs.Common.{◌≡◌, ◌++◌, drop, take, map}
 use Rattle.nt_subs.specs.Wishes.{wanted}
-use Rattle.nt_server.specs.State.{with_outbox, told_differences}
+use Rattle.nt_history.specs.State.{with_outbox, told_differences}
 use Rattle.nt_server.proofs.refresh.tell_metas.Given as goal
 
 -- the connections passed were told, and the others are to be

@@ -1,5 +1,5 @@
 use Rattle.std.proofs.Common.{◌≡◌, ◌++◌, drop, take}
-use Rattle.nt_server.specs.State.{with_subs_of}
+use Rattle.nt_history.specs.State.{with_subs_of}
 use Rattle.nt_server.proofs.rewant.resubscribe.Given as goal
 
 -- those passed have the other subscriptions

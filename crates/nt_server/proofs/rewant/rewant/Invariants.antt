@@ -1,5 +1,5 @@
 use Rattle.std.proofs.Common.{◌≡◌, ◌++◌, drop, take}
-use Rattle.nt_server.specs.State.{rewanting}
+use Rattle.nt_history.specs.State.{rewanting}
 use Rattle.nt_server.proofs.rewant.rewant.Given as goal
 
 -- those passed were told

@@ -1,6 +1,6 @@
 use Rattle.std.proofs.Common.{◌≡◌, drop}
 use Rattle.nt_subs.specs.Wishes.{wanted}
-use Rattle.nt_server.specs.State.{meta_rewanted_all}
+use Rattle.nt_history.specs.State.{meta_rewanted_all}
 use Rattle.nt_server.proofs.rewant.rewant_metas.Given as goal
 
 -- the meta topics that follow do to the outbox what all do to the one at the start

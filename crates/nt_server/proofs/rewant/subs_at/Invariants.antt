@@ -1,5 +1,5 @@
 use Rattle.std.proofs.Common.{◌≡◌, drop}
-use Rattle.nt_server.specs.State.{subs_at}
+use Rattle.nt_history.specs.State.{subs_at}
 use Rattle.nt_server.proofs.rewant.subs_at.Given as goal
 
 -- it is among those that follow

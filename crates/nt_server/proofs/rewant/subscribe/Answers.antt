@@ -1,8 +1,8 @@
 use Rattle.std.proofs.Common.{◌≡◌, ◌∙◌, ap, List, map}
 use Rattle.nt_subs.specs.Wishes.{wanted}
 use Rattle.nt_meta.specs.declared.meta.MetaNow.{MetaNow}
-use Rattle.nt_server.specs.declared.open.Open.{Open}
-use Rattle.nt_server.specs.State.{with_outbox, with_subs_of, rewanting, metas_kept, differences, told_differences}
+use Rattle.nt_history.specs.declared.kept.Open.{Open}
+use Rattle.nt_history.specs.State.{with_outbox, with_subs_of, rewanting, metas_kept, differences, told_differences}
 use Rattle.nt_server.proofs.RosterRows.{IsRenewed, renewed}
 use Rattle.nt_server.proofs.rewant.subscribe.Goals as goal
 

@@ -1,6 +1,6 @@
 use Rattle.std.proofs.Common.{not, rules, tests}
 use Rattle.std.proofs.lemmas.Fn.{filter_same}
-use Rattle.nt_server.specs.State.{is_number}
+use Rattle.nt_history.specs.State.{is_number}
 use Rattle.nt_server.proofs.step.remove.Goals as goal
 
 pub returns : goal.returns

@@ -1,6 +1,6 @@
 use Rattle.std.proofs.Common.{◌==◌, not, rules, tests}
 use Rattle.std.proofs.lemmas.Fn.{filter_same}
-use Rattle.nt_server.specs.declared.taken.Taken.{Taken}
+use Rattle.nt_history.specs.declared.kept.Taken.{Taken}
 use Rattle.nt_server.proofs.taken.forget.Goals as goal
 
 pub returns : goal.returns

@@ -1,6 +1,6 @@
 use Rattle.std.proofs.Common.{◌≡◌, ◌<◌, ◌++◌, ℕ, zero, suc, cond, ltb, List, [], ◌∷◌, length, get_or, set, take, drop, sym, ◌∙◌, ap, eq-eqb, arith}
-use Rattle.nt_server.specs.declared.taken.Taken.{Taken}
-use Rattle.nt_server.specs.State.{with_taken}
+use Rattle.nt_history.specs.declared.kept.Taken.{Taken}
+use Rattle.nt_history.specs.State.{with_taken}
 use Rattle.nt_server.proofs.taken.index_of.Goals as goal
 
 -- a write at the place of a topic

@@ -1,5 +1,5 @@
 use Rattle.std.proofs.Common.{◌≡◌, ◌++◌, drop, take}
-use Rattle.nt_server.specs.State.{with_taken}
+use Rattle.nt_history.specs.State.{with_taken}
 use Rattle.nt_server.proofs.taken.index_of.Given as goal
 
 -- it stands, or would stand, among those that follow

@@ -1,5 +1,5 @@
 use Rattle.std.proofs.Common.{◌≡◌, drop}
-use Rattle.nt_server.specs.State.{taken_at}
+use Rattle.nt_history.specs.State.{taken_at}
 use Rattle.nt_server.proofs.taken.taken_at.Given as goal
 
 -- it stands among those that follow

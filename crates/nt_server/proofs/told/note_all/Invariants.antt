@@ -1,6 +1,6 @@
 use Rattle.std.proofs.Common.{◌≡◌, drop}
 use Rattle.nt_subs.specs.Wishes.{wanted}
-use Rattle.nt_server.specs.State.{noted_all}
+use Rattle.nt_history.specs.State.{noted_all}
 use Rattle.nt_server.proofs.told.note_all.Given as goal
 
 -- the changes that follow do to the outbox what all do to the one at the start

@@ -1,6 +1,6 @@
 use Rattle.std.proofs.Common.{◌≡◌, drop, filter}
 use Rattle.nt_subs.specs.Wishes.{wanted}
-use Rattle.nt_server.specs.State.{is_end, noted_all}
+use Rattle.nt_history.specs.State.{is_end, noted_all}
 use Rattle.nt_server.proofs.told.note_ends.Given as goal
 
 -- the ends that follow do to the outbox what all do to the one at the start

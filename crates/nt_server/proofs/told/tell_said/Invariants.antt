@@ -1,5 +1,5 @@
 use Rattle.std.proofs.Common.{◌≡◌, ◌++◌, drop, take, map}
-use Rattle.nt_server.specs.State.{told_said}
+use Rattle.nt_history.specs.State.{told_said}
 use Rattle.nt_server.proofs.told.tell_said.Given as goal
 
 -- the connections passed were told, and the others are to be

@@ -1,6 +1,6 @@
 use Rattle.std.proofs.Common.{[], sym, ◌∙◌}
-use Rattle.nt_server.specs.Now.{said_cause}
-use Rattle.nt_server.specs.State.{changes_said, topics_said}
+use Rattle.nt_history.specs.Now.{said_cause}
+use Rattle.nt_history.specs.State.{changes_said, topics_said}
 use Rattle.nt_server.proofs.Counts.{done_counts, kept_at}
 use Rattle.nt_server.proofs.inner.Inner.count.Goals as goal
 

@@ -1,8 +1,8 @@
 use Rattle.std.proofs.Common.{◌≡◌, List, map, sym, ◌∙◌, ap, arith}
 use Rattle.std.proofs.lemmas.Grind.{common_steps}
 use Rattle.std.specs.Vec.{with_items}
-use Rattle.nt_server.specs.declared.open.Open.{Open}
-use Rattle.nt_server.specs.State.{metas_kept, told_said}
+use Rattle.nt_history.specs.declared.kept.Open.{Open}
+use Rattle.nt_history.specs.State.{metas_kept, told_said}
 use Rattle.nt_server.specs.View.{IsKept}
 use Rattle.nt_server.proofs.RosterRows.{metas_said}
 use Rattle.nt_server.proofs.inner.Inner.tell.Goals as goal

@@ -1,8 +1,8 @@
 use Rattle.std.proofs.Common.{◌≡◌, List, length, ◌∙◌, ap, sym, rules}
-use Rattle.nt_server.specs.declared.open.Open.{Open}
-use Rattle.nt_server.specs.State.{outbox_at}
+use Rattle.nt_history.specs.declared.kept.Open.{Open}
+use Rattle.nt_history.specs.State.{outbox_at}
 use Rattle.nt_outbox.specs.Calls as box
-use Rattle.nt_server.proofs.Looked.{looked-pending}
+use Rattle.nt_history.proofs.Looked.{looked-pending}
 use Rattle.nt_server.proofs.server.Server.pending.Goals as goal
 
 pub returns : goal.returns

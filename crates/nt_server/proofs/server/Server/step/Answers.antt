@@ -1,9 +1,9 @@
 use Rattle.std.proofs.Common.{◌≡◌, List, IfOk, subst}
 use Rattle.nt_server.specs.contracts.server.Server.{the_view}
-use Rattle.nt_server.specs.declared.act.Entry.{Entry}
-use Rattle.nt_server.specs.Changes.{added_changes}
-use Rattle.nt_server.specs.Now.{Start}
-use Rattle.nt_server.specs.Step.{Kept, Stands, Steps}
+use Rattle.nt_history.specs.declared.act.Entry.{Entry}
+use Rattle.nt_history.specs.Changes.{added_changes}
+use Rattle.nt_history.specs.Now.{Start}
+use Rattle.nt_history.specs.Step.{Kept, Stands, Steps}
 use Rattle.nt_server.proofs.Stepping.{well-after, step-steps, step-changes}
 use Rattle.nt_server.proofs.server.Server.step.Goals as goal
 

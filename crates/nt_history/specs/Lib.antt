@@ -1,0 +1,10 @@
+pub mod Lives
+pub mod Now
+pub mod Metas
+pub mod Owed
+pub mod Answer
+pub mod Marks
+pub mod State
+pub mod Step
+pub mod Saved
+pub mod Changes
