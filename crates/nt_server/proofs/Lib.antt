@@ -4,4 +4,5 @@ pub mod Persistent
 pub mod Restoring
 pub mod RosterRows
 pub mod Rows
+pub mod Searching
 pub mod Stepping

@@ -1,5 +1,5 @@
 -- What a step answers, by what its arms do to what is kept.
-use Rattle.std.proofs.Common.{◌≡◌, ◌<◌, ◌+◌, ◌^◌, ℕ, Bool, true, false, max, List, [], Result, Ok, Err, IfOk, OnOk, length, refl, sym, ap, subst, ◌∙◌}
+use Rattle.std.proofs.Common.{◌≡◌, ◌<◌, ◌+◌, ◌^◌, ℕ, Bool, false, max, List, [], Result, Ok, Err, IfOk, OnOk, length, refl, sym, ap, subst, ◌∙◌}
 use Rattle.std.specs.Result.{is_err}
 use Rattle.nt_history.specs.declared.act.Act.{Act}
 use Rattle.nt_history.specs.declared.act.Entry.{Entry}

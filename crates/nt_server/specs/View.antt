@@ -26,7 +26,7 @@ state_of i =
       opens = i.opens.items;
       topics = i.table.topics;
       next = i.table.next;
-      taken = i.taken.items;
+      taken = i.taken;
     }
 
 -- the state at the beginning, where so many permits are granted and these topics were saved

@@ -12,7 +12,6 @@ use crate::inner::Inner;
 use crate::refresh::refresh;
 use crate::rewant::{subs_at, subscribe, without_sub};
 use crate::said::say;
-use crate::taken::take_changes;
 use crate::told::tell_said;
 use nt_control::ClientMsg;
 use nt_history::Msg;
@@ -35,7 +34,7 @@ impl Inner {
           opens = if_structural msg.now place self.old.metas self.old.table.topics
               (map (told_said place self.old.table.topics conn msg.now changes.now)
               self.old.opens.items);
-          taken = taken_after place changes.now self.old.taken.items;
+          taken = taken_after place changes.now self.old.taken;
         }) }
         ensures kept { OnOk result (IsKept self.new) }
     {
@@ -48,7 +47,7 @@ impl Inner {
             msg,
             changes,
         )?;
-        take_changes(&mut self.taken, place, changes)?;
+        self.taken.take_changes(place, changes)?;
         match msg {
             Msg::Control(_) => refresh(alloc, &mut self.opens, &mut self.metas, place, &self.table),
             Msg::Put(_) => Ok(()),

@@ -1,6 +1,7 @@
 //! What a server keeps.
 
-use nt_history::{Open, Taken};
+use crate::taken::TakenPlaces;
+use nt_history::Open;
 use nt_meta::Metas;
 use nt_table::Table;
 
@@ -18,6 +19,6 @@ pub struct Inner {
     pub opened: u32,
     pub table: Table,
     pub opens: Vec<Open>,
-    pub taken: Vec<Taken>,
+    pub taken: TakenPlaces,
     pub metas: Metas,
 }

@@ -8,8 +8,8 @@ ghost use Rattle.nt_history.specs.State.{subs_at, taken_at, rewanted_all, meta_r
 
 use crate::refresh::tell_metas;
 use crate::roster::metas_of;
-use crate::taken::taken_at;
-use nt_history::{Open, Taken};
+use crate::taken::TakenPlaces;
+use nt_history::Open;
 use nt_meta::{MetaNow, Metas};
 use nt_outbox::Outbox;
 use nt_subs::SubSet;
@@ -65,7 +65,7 @@ fn rewant_topic(
     outbox: &mut Outbox,
     place: u64,
     topic: &Topic,
-    taken: &[Taken],
+    taken: &TakenPlaces,
     old: &SubSet,
     new: &SubSet,
 ) -> Result<(), AllocError>
@@ -74,7 +74,7 @@ fn rewant_topic(
         (wanted new.now topic.now.name) outbox.old) }
 {
     let name = topic.name.as_str();
-    let at = taken_at(taken, topic.id);
+    let at = taken.at(topic.id);
     outbox.rewant(
         alloc,
         place,
@@ -92,7 +92,7 @@ fn rewant_topics(
     outbox: &mut Outbox,
     place: u64,
     table: &Table,
-    taken: &[Taken],
+    taken: &TakenPlaces,
     old: &SubSet,
     new: &SubSet,
 ) -> Result<(), AllocError>
@@ -133,7 +133,7 @@ fn rewant_client(
     client: &mut Open,
     place: u64,
     table: &Table,
-    taken: &[Taken],
+    taken: &TakenPlaces,
     metas: &[MetaNow],
     old: &SubSet,
 ) -> Result<(), AllocError>
@@ -162,7 +162,7 @@ fn rewant(
     conn: u32,
     place: u64,
     table: &Table,
-    taken: &[Taken],
+    taken: &TakenPlaces,
     metas: &[MetaNow],
     old: &SubSet,
 ) -> Result<(), AllocError>
@@ -185,7 +185,7 @@ pub fn subscribe(
     conn: u32,
     place: u64,
     table: &Table,
-    taken: &[Taken],
+    taken: &TakenPlaces,
     old: &SubSet,
     new: &SubSet,
 ) -> Result<(), AllocError>

@@ -16,6 +16,7 @@ use crate::restore::restored;
 use crate::roster::metas_of;
 use crate::saved::saved_of;
 use crate::step::Stepped;
+use crate::taken::TakenPlaces;
 use nt_history::Act;
 use nt_table::{Saved, Table};
 use std::alloc::{AllocError, Global};
@@ -87,7 +88,7 @@ impl Server {
                 opened: 0,
                 table,
                 opens,
-                taken: Vec::new(alloc),
+                taken: TakenPlaces::new(alloc),
                 metas,
             },
         })

@@ -13,7 +13,6 @@ use crate::inner::Inner;
 use crate::names::given_name;
 use crate::refresh::refresh;
 use crate::said::serves;
-use crate::taken::take_changes;
 use crate::told::tell_all;
 use nt_history::{Act, Deed, Entry, Msg, Open, StepOut};
 use nt_outbox::{Batch, Outbox};
@@ -291,7 +290,7 @@ impl Inner {
         let changes = self.table.drop_conn(alloc, conn)?;
         remove(&mut self.opens, conn);
         tell_all(alloc, &mut self.opens, place, changes.as_slice())?;
-        take_changes(&mut self.taken, place, changes.as_slice())?;
+        self.taken.take_changes(place, changes.as_slice())?;
         refresh(alloc, &mut self.opens, &mut self.metas, place, &self.table)?;
         Ok(changes)
     }

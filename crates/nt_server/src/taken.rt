@@ -1,60 +1,40 @@
 //! At which places the held values were taken.
 
-ghost use Rattle.std.specs.Prelude.{◌≡◌, ◌<◌, ◌≤◌, ◌==◌, filter, insert, length, not, slice_set, MatchResult, OnOk};
+ghost use Rattle.std.specs.Prelude.{◌≡◌, [], MatchResult, OnOk};
 ghost use Rattle.nt_outbox.specs.Calls.{id_of};
 ghost use Rattle.nt_history.specs.State.{taken_at, with_taken, without_taken, taken_by, taken_after};
+ghost use Rattle.nt_server.specs.TakenPlaces.{RiseFrom, StandsAt, IsMissedAt};
 
 use nt_history::Taken;
 use nt_table::Change;
-use std::alloc::AllocError;
+use std::alloc::{AllocError, Global};
+use std::marker::Model;
 
-/// The place at which the value of a topic was taken, and 0 where none was.
-pub fn taken_at(taken: &[Taken], id: u32) -> u64
-    ensures { result ≡ taken_at id taken.now }
-{
-    for one in taken {
-        if one.topic == id {
-            return one.place;
-        }
-    }
-    0
+/// The places at which the values that topics hold were taken. Contracts see the list of them, by
+/// rising id of the topics.
+#[derive(Debug, Drop)]
+pub struct TakenPlaces {
+    list: Vec<Taken>,
+}
+
+impl Model for TakenPlaces {
+    ghost use Rattle.std.specs.Prelude.{List};
+    ghost use Rattle.nt_history.specs.declared.kept.Taken.{Taken};
+    ghost use Rattle.nt_server.specs.TakenPlaces.{RiseFrom};
+
+    ghost Value = { List Taken };
+
+    ghost view = { λ p. p.list.items };
+
+    ghost invariant = { λ p. RiseFrom 0 p.list.items };
 }
 
 /// Where the place of a topic stands, or else would stand.
-fn index_of(taken: &[Taken], new: Taken) -> Result<usize, usize>
-    ensures { MatchResult result
-        (λ i. (i < length taken.now)
-        × (slice_set taken.now i new ≡ with_taken new.topic new.place taken.now))
-        (λ i. (i ≤ length taken.now)
-        × (insert taken.now i new ≡ with_taken new.topic new.place taken.now)) }
+fn index_of(taken: &[Taken], topic: u32) -> Result<usize, usize>
+    requires { RiseFrom 0 taken.now }
+    ensures { MatchResult result (StandsAt topic taken.now) (IsMissedAt topic taken.now) }
 {
-    for (i, one) in taken.iter().enumerate() {
-        if one.topic == new.topic {
-            return Ok(i);
-        }
-        if new.topic < one.topic {
-            return Err(i);
-        }
-    }
-    Err(taken.len())
-}
-
-/// Keeps the place at which the value of a topic was taken. It fails for want of memory alone.
-fn take(taken: &mut Vec<Taken>, new: Taken) -> Result<(), AllocError>
-    ensures { OnOk result (taken.new.items ≡ with_taken new.topic new.place taken.old.items) }
-{
-    match index_of(taken, new) {
-        Ok(i) => taken[i] = new,
-        Err(i) => taken.insert(i, new)?,
-    }
-    Ok(())
-}
-
-/// Forgets the place of a topic.
-fn forget(taken: &mut Vec<Taken>, id: u32)
-    ensures { taken.new.items ≡ without_taken id taken.old.items }
-{
-    taken.retain(|one| one.topic != id);
+    taken.binary_search_by_key(&topic, |one| one.topic)
 }
 
 /// The id of a topic. A number that is none names no topic.
@@ -64,37 +44,75 @@ fn id_of(id: i64) -> Option<u32>
     u32::try_from(id).ok()
 }
 
-/// Keeps the place of a value that was taken there, and forgets that of a topic that ended. It
-/// fails for want of memory alone.
-fn take_change(taken: &mut Vec<Taken>, place: u64, change: &Change) -> Result<(), AllocError>
-    ensures { OnOk result (taken.new.items ≡ taken_by place change.now taken.old.items) }
-{
-    match change {
-        Change::Changed { id, .. } => match id_of(*id) {
-            Some(topic) => take(taken, Taken { topic, place }),
-            None => Ok(()),
-        },
-        Change::Ended { id, .. } => {
-            if let Some(topic) = id_of(*id) {
-                forget(taken, topic);
-            }
-            Ok(())
+impl TakenPlaces {
+    /// No places.
+    pub fn new(alloc: Global) -> TakenPlaces
+        ensures { result ≡ [] }
+    {
+        TakenPlaces {
+            list: Vec::new(alloc),
         }
-        _other => Ok(()),
     }
-}
 
-/// Keeps the places of values that were taken there, and forgets those of topics that ended. It
-/// fails for want of memory alone.
-pub fn take_changes(
-    taken: &mut Vec<Taken>,
-    place: u64,
-    changes: &[Change],
-) -> Result<(), AllocError>
-    ensures { OnOk result (taken.new.items ≡ taken_after place changes.now taken.old.items) }
-{
-    for change in changes {
-        take_change(taken, place, change)?;
+    /// The place at which the value of a topic was taken, and 0 where none was.
+    pub fn at(&self, topic: u32) -> u64
+        ensures { result ≡ taken_at topic self.now }
+    {
+        match index_of(&self.list, topic) {
+            Ok(i) => self.list[i].place,
+            Err(_) => 0,
+        }
     }
-    Ok(())
+
+    /// Keeps the place at which the value of a topic was taken. It fails for want of memory alone.
+    fn take(&mut self, topic: u32, place: u64) -> Result<(), AllocError>
+        ensures { OnOk result (self.new ≡ with_taken topic place self.old) }
+    {
+        let new = Taken { topic, place };
+        match index_of(&self.list, topic) {
+            Ok(i) => self.list[i] = new,
+            Err(i) => self.list.insert(i, new)?,
+        }
+        Ok(())
+    }
+
+    /// Forgets the place of a topic.
+    fn forget(&mut self, topic: u32)
+        ensures { self.new ≡ without_taken topic self.old }
+    {
+        if let Ok(i) = index_of(&self.list, topic) {
+            let _gone = self.list.remove(i);
+        }
+    }
+
+    /// Keeps the place of a value that was taken there, and forgets that of a topic that ended. It
+    /// fails for want of memory alone.
+    fn take_change(&mut self, place: u64, change: &Change) -> Result<(), AllocError>
+        ensures { OnOk result (self.new ≡ taken_by place change.now self.old) }
+    {
+        match change {
+            Change::Changed { id, .. } => match id_of(*id) {
+                Some(topic) => self.take(topic, place),
+                None => Ok(()),
+            },
+            Change::Ended { id, .. } => {
+                if let Some(topic) = id_of(*id) {
+                    self.forget(topic);
+                }
+                Ok(())
+            }
+            _other => Ok(()),
+        }
+    }
+
+    /// Keeps the places of values that were taken there, and forgets those of topics that ended. It
+    /// fails for want of memory alone.
+    pub fn take_changes(&mut self, place: u64, changes: &[Change]) -> Result<(), AllocError>
+        ensures { OnOk result (self.new ≡ taken_after place changes.now self.old) }
+    {
+        for change in changes {
+            self.take_change(place, change)?;
+        }
+        Ok(())
+    }
 }

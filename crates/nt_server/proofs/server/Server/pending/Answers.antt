@@ -1,4 +1,4 @@
-use Rattle.std.proofs.Common.{◌≡◌, List, length, ◌∙◌, ap, sym, rules}
+use Rattle.std.proofs.Common.{◌≡◌, List, length, ◌∙◌, ap, rules}
 use Rattle.nt_history.specs.declared.kept.Open.{Open}
 use Rattle.nt_history.specs.State.{outbox_at}
 use Rattle.nt_outbox.specs.Calls as box

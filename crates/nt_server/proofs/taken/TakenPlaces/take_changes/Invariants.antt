@@ -1,9 +1,9 @@
 use Rattle.std.proofs.Common.{◌≡◌, drop}
 use Rattle.nt_history.specs.State.{taken_after}
-use Rattle.nt_server.proofs.taken.take_changes.Given as goal
+use Rattle.nt_server.proofs.taken.TakenPlaces.take_changes.Given as goal
 
 -- the changes that follow do to the places what all do to those at the start
 abbrev pub invariant-loop-change : goal.invariant-loop-change
 invariant-loop-change l =
-    taken_after l.place (drop l.change-index l.changes) l.taken.items
-    ≡ taken_after l.place l.changes l.fn.taken.items
+    taken_after l.place (drop l.change-index l.changes) l.self
+    ≡ taken_after l.place l.changes l.fn.self
