@@ -3,6 +3,8 @@
 ghost use Rattle.std.specs.Prelude.{IfOk};
 ghost use Rattle.nt_history.specs.Step.{MayAct};
 
+use crate::large::{publish_large, put_large, subscribe_all};
+use crate::saved::{held_line, saved_lines};
 use nt_control::ClientMsg;
 use nt_frames::ValueMsg;
 use nt_link::Frame;
@@ -52,6 +54,16 @@ pub enum Row {
     Enters(u32, u32, Call, &'static str),
     /// What a connection is owed, and whether the server is shut.
     Look(u32, &'static str),
+    /// Publisher 1 of connection 1 puts so many values of 131,072 bytes.
+    PutsLarge(u32, &'static str),
+    /// Connection 1 subscribes to nothing that there is, under so many uids from 0 on.
+    Subscribes(u32, &'static str),
+    /// Connection 1 publishes `/a` under a uid, with properties of so many bytes.
+    PublishesLarge(i64, usize, &'static str),
+    /// The id, the time and the value of a topic.
+    Holds(&'static str, &'static str),
+    /// The topics that are saved.
+    Saves(&'static str),
 }
 
 /// The properties of this text.
@@ -322,7 +334,7 @@ fn entered(
 
 /// How many messages a connection is owed, what is queued for it, with what it fell behind, and
 /// whether the server is shut.
-pub fn look_line(alloc: Global, server: &Server, conn: u32) -> Result<String, AllocError> {
+fn look_line(alloc: Global, server: &Server, conn: u32) -> Result<String, AllocError> {
     let (pending, queued) = (server.pending(conn), server.queued(conn));
     let (behind, shut) = (server.is_behind(conn), server.is_shut());
     format!(in alloc; "{pending} {queued} {behind:?} {shut}")
@@ -340,20 +352,38 @@ fn said(alloc: Global, server: &mut Server, row: &Row) -> Result<String, Fail> {
             Ok(entered(alloc, server, *worker, *now, act)?)
         }
         Row::Look(conn, _) => Ok(look_line(alloc, server, *conn)?),
+        Row::PutsLarge(count, _) => put_large(alloc, server, *count),
+        Row::Subscribes(count, _) => subscribe_all(alloc, server, *count),
+        Row::PublishesLarge(uid, count, _) => publish_large(alloc, server, *uid, *count),
+        Row::Holds(name, _) => held_line(alloc, server, name),
+        Row::Saves(_) => Ok(saved_lines(alloc, &server.saved(alloc)?)?),
     }
 }
 
 /// The line that is wanted of a row.
 fn wanted(row: &Row) -> &'static str {
     match row {
-        Row::Step(_, _, _, wanted) | Row::Enters(_, _, _, wanted) | Row::Look(_, wanted) => wanted,
+        Row::Step(_, _, _, wanted)
+        | Row::Enters(_, _, _, wanted)
+        | Row::Look(_, wanted)
+        | Row::PutsLarge(_, wanted)
+        | Row::Subscribes(_, wanted)
+        | Row::PublishesLarge(_, _, wanted)
+        | Row::Holds(_, wanted)
+        | Row::Saves(wanted) => wanted,
     }
 }
 
 /// Runs the rows on a server with so many permits: the first line that isn't the wanted one, behind
 /// its row's number, or nothing.
 pub fn first_other(alloc: Global, permits: u32, rows: &[Row]) -> Result<String, Fail> {
-    let mut server = Server::new(alloc, permits)?;
+    let server = Server::new(alloc, permits)?;
+    first_other_of(alloc, server, rows)
+}
+
+/// Runs the rows on this server: the first line that isn't the wanted one, behind its row's number,
+/// or nothing.
+pub fn first_other_of(alloc: Global, mut server: Server, rows: &[Row]) -> Result<String, Fail> {
     for (number, row) in rows.iter().enumerate() {
         let line = said(alloc, &mut server, row)?;
         if line.as_str() != wanted(row) {
