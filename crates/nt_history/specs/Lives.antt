@@ -1,5 +1,5 @@
--- The life of a client topic: what the entries that count did to it (NetworkTables 4.1, "Published Topics" and
--- "Properties").
+-- The life of a client topic: what the entries that count did to it, and the older values that were put to it
+-- (NetworkTables 4.1, "Published Topics" and "Properties").
 use Rattle.std.specs.Prelude.{ℕ, ℤ, Bool, List, [], ◌∷◌, ◌++◌, Option, Some, None, is_none, option_map, filter, not, ◌&&◌, ◌+◌, if◌then◌else◌}
 use Rattle.std.specs.List.{filter_map}
 use Rattle.serde_json.specs.Data.{Data}

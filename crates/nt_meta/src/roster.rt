@@ -36,7 +36,7 @@ pub struct ConnRow {
 /// The open connections.
 pub type Conns = ListOf<ConnRow>;
 
-/// A living topic that a client published.
+/// A living topic that is no meta topic.
 #[derive(Debug, Drop)]
 pub struct LifeRow {
     pub id: u32,

@@ -99,7 +99,7 @@ impl Server {
     ///
     /// # Errors
     ///
-    /// Want of memory alone, and so too at the entry after the one of the place 2^63 - 1. The
+    /// Want of memory alone, and so too at the entry of the place 2^63 - 1. The
     /// server has then failed: each later step answers the same.
     pub fn step(
         &mut self,

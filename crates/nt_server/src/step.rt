@@ -24,8 +24,8 @@ use std::alloc::{AllocError, Global};
 /// The last number of a connection.
 const LAST_CONNECTION: u32 = 268_435_455;
 
-/// The last place of an entry.
-const LAST_PLACE: u64 = 9_223_372_036_854_775_807;
+/// The last place of an entry: 2^63 - 2.
+const LAST_PLACE: u64 = 9_223_372_036_854_775_806;
 
 /// What an act is answered, its entry, and the changes that it makes.
 #[derive(Debug, Drop)]
@@ -415,7 +415,7 @@ impl Inner {
     }
 
     /// One act of a worker at this moment, in microseconds. It fails for want of memory alone, and
-    /// so where there are 2^63 - 1 entries.
+    /// so where there are 2^63 - 2 entries.
     pub fn step_well(
         &mut self,
         alloc: Global,
