@@ -3,15 +3,11 @@ use Rattle.std.proofs.Common.{◌≡◌, ℕ, ◌+◌, ◌<◌, ◌≤◌, List,
 use Rattle.std.specs.declared.option.Option.{Option}
 use Rattle.std.specs.Io.KnownBytes.{Consumes}
 use Rattle.std.proofs.KnownBytes.{Consumes-trans}
-use Rattle.nt_link.specs.Causes.{StaysAtEnd, Aside}
 use Rattle.nt_cli.specs.Input.{most_bytes, piece_bytes, ReadsTooMany}
 
 -- what a loop over reads keeps: the bytes so far, and the rest of the source
-pub record ReadsSoFar (before now : Option (List ℕ)) (faults_before faults_now : ℕ) (aside_before aside_now : Aside) (bytes : List ℕ) : Type 0 where
+pub record ReadsSoFar (before now : Option (List ℕ)) (bytes : List ℕ) : Type 0 where
   pub taken : Consumes before now bytes
-  pub later : faults_before ≤ faults_now
-  pub end : StaysAtEnd faults_before faults_now
-  pub aside : aside_now ≡ aside_before
   pub within : length bytes ≤ most_bytes
 
 -- bytes within the limit, and a piece that passes it

@@ -4,12 +4,13 @@ pub mod Replies
 pub mod Shows
 pub mod TellLines
 pub mod LineFeeds
-pub mod Rounds
+pub mod LineReplies
 pub mod LineReads
 pub mod Printing
 pub mod Hexadecimals
-pub mod Hearings
+pub mod LineMessages
 pub mod FrameLines
 pub mod DeskSteps
+pub mod DeskTurns
 pub mod Endings
 pub mod Turns

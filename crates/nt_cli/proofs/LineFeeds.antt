@@ -7,7 +7,7 @@ use Rattle.std.proofs.lemmas.List.Folds.{list_any-append, list_any_none}
 use Rattle.std.proofs.lemmas.List.Sums.{prefix_len_passes}
 use Rattle.std.proofs.lemmas.List.Quantifiers.{position-Some}
 use Rattle.nt_cli.specs.LineReading.{is_feed, IsUnbroken}
-use Rattle.nt_cli.specs.Desk.{is_empty, in_front, whole_lines, last_line}
+use Rattle.nt_cli.specs.Desk.{is_empty, before_first, whole_lines, last_line}
 
 -- ---- the first line feed
 
@@ -45,47 +45,47 @@ at_feed xs n found =
     let lt : n < length xs = at.0 in
     sym (take-append-drop n xs) ∙ ap (λ l. take n xs ++ l) (drop_more xs n 0 lt ∙ ap (λ b. b ∷ drop (n + 1) xs) feed)
 
--- ---- the lines behind bytes without a line feed
+-- ---- the lines after bytes without a line feed
 
 neither : (a b : Bool) → (a || b) ≡ false → (a ≡ false) × (b ≡ false)
 neither true b h = absurd (true≢false h)
 neither false b h = (refl, h)
 
--- bytes in front of the first line, where there is one
-abbrev pub all_in_front : List ℕ → List (List ℕ) → List (List ℕ)
-all_in_front front [] = []
-all_in_front front (line ∷ lines) = (front ++ line) ∷ lines
+-- bytes before the first line, where there is one
+abbrev pub all_before_first : List ℕ → List (List ℕ) → List (List ℕ)
+all_before_first prefix [] = []
+all_before_first prefix (line ∷ lines) = (prefix ++ line) ∷ lines
 
-none_in_front : (lines : List (List ℕ)) → lines ≡ all_in_front [] lines
-none_in_front [] = refl
-none_in_front (line ∷ lines) = refl
+none_before_first : (lines : List (List ℕ)) → lines ≡ all_before_first [] lines
+none_before_first [] = refl
+none_before_first (line ∷ lines) = refl
 
-one_more : (b : ℕ) (front : List ℕ) (lines : List (List ℕ)) → in_front b (all_in_front front lines) ≡ all_in_front (b ∷ front) lines
-one_more b front [] = refl
-one_more b front (line ∷ lines) = refl
+one_more : (b : ℕ) (prefix : List ℕ) (lines : List (List ℕ)) → before_first b (all_before_first prefix lines) ≡ all_before_first (b ∷ prefix) lines
+one_more b prefix [] = refl
+one_more b prefix (line ∷ lines) = refl
 
-as_empty : (front : List ℕ) (lines : List (List ℕ)) → is_empty (all_in_front front lines) ≡ is_empty lines
-as_empty front [] = refl
-as_empty front (line ∷ lines) = refl
+as_empty : (prefix : List ℕ) (lines : List (List ℕ)) → is_empty (all_before_first prefix lines) ≡ is_empty lines
+as_empty prefix [] = refl
+as_empty prefix (line ∷ lines) = refl
 
-with_byte : (b : ℕ) (lines : List (List ℕ)) → is_empty (in_front b lines) ≡ is_empty lines
+with_byte : (b : ℕ) (lines : List (List ℕ)) → is_empty (before_first b lines) ≡ is_empty lines
 with_byte b [] = refl
 with_byte b (line ∷ lines) = refl
 
 -- the whole lines of bytes without a line feed, and more
-pub whole_lines-append : (front xs : List ℕ) → IsUnbroken front → whole_lines (front ++ xs) ≡ all_in_front front (whole_lines xs)
-whole_lines-append [] xs h = none_in_front (whole_lines xs)
-whole_lines-append (b ∷ front) xs h =
+pub whole_lines-append : (prefix xs : List ℕ) → IsUnbroken prefix → whole_lines (prefix ++ xs) ≡ all_before_first prefix (whole_lines xs)
+whole_lines-append [] xs h = none_before_first (whole_lines xs)
+whole_lines-append (b ∷ prefix) xs h =
     let parts = neither _ _ h in
     let here : is_feed b ≡ false = parts.0 in
-    rw (here, whole_lines-append front xs parts.1) (one_more b front (whole_lines xs))
+    rw (here, whole_lines-append prefix xs parts.1) (one_more b prefix (whole_lines xs))
 
--- bytes without a whole line are all behind the last line feed
+-- bytes without a whole line are all after the last line feed
 last_alone : (xs : List ℕ) → is_empty (whole_lines xs) ≡ true → last_line xs ≡ xs
 last_alone [] h = refl
 last_alone (b ∷ xs) h = by (is_feed b) refl
   where
-    in_line : (e : Bool) → is_empty (whole_lines xs) ≡ e → is_empty (in_front b (whole_lines xs)) ≡ true → cond e (b ∷ xs) (last_line xs) ≡ b ∷ xs
+    in_line : (e : Bool) → is_empty (whole_lines xs) ≡ e → is_empty (before_first b (whole_lines xs)) ≡ true → cond e (b ∷ xs) (last_line xs) ≡ b ∷ xs
     in_line true is all = refl
     in_line false is all = absurd (true≢false (sym all ∙ with_byte b (whole_lines xs) ∙ is))
 
@@ -93,24 +93,24 @@ last_alone (b ∷ xs) h = by (is_feed b) refl
     by true is = absurd (true≢false (sym (rw is at h)))
     by false is = in_line _ refl (rw is at h)
 
--- and what is behind the last line feed of bytes without one, and more
-pub last_line-append : (front xs : List ℕ) → IsUnbroken front → last_line (front ++ xs) ≡ cond (is_empty (whole_lines xs)) (front ++ xs) (last_line xs)
+-- and what is after the last line feed of bytes without one, and more
+pub last_line-append : (prefix xs : List ℕ) → IsUnbroken prefix → last_line (prefix ++ xs) ≡ cond (is_empty (whole_lines xs)) (prefix ++ xs) (last_line xs)
 last_line-append [] xs h = by _ refl
   where
     by : (e : Bool) → is_empty (whole_lines xs) ≡ e → last_line xs ≡ cond e xs (last_line xs)
     by true is = last_alone xs is
     by false is = refl
-last_line-append (b ∷ front) xs h =
+last_line-append (b ∷ prefix) xs h =
     let parts = neither _ _ h in
     let here : is_feed b ≡ false = parts.0 in
-    let same : is_empty (whole_lines (front ++ xs)) ≡ is_empty (whole_lines xs) = ap is_empty (whole_lines-append front xs parts.1) ∙ as_empty front (whole_lines xs) in
-    rw (here, same, last_line-append front xs parts.1) (by (is_empty (whole_lines xs)))
+    let same : is_empty (whole_lines (prefix ++ xs)) ≡ is_empty (whole_lines xs) = ap is_empty (whole_lines-append prefix xs parts.1) ∙ as_empty prefix (whole_lines xs) in
+    rw (here, same, last_line-append prefix xs parts.1) (by (is_empty (whole_lines xs)))
   where
-    by : (e : Bool) → cond e (b ∷ (front ++ xs)) (cond e (front ++ xs) (last_line xs)) ≡ cond e (b ∷ (front ++ xs)) (last_line xs)
+    by : (e : Bool) → cond e (b ∷ (prefix ++ xs)) (cond e (prefix ++ xs) (last_line xs)) ≡ cond e (b ∷ (prefix ++ xs)) (last_line xs)
     by true = refl
     by false = refl
 
--- bytes without a line feed have no whole line, and are all behind the last line feed
+-- bytes without a line feed have no whole line, and are all after the last line feed
 pub whole_lines-unbroken : (xs : List ℕ) → IsUnbroken xs → whole_lines xs ≡ []
 whole_lines-unbroken xs h = ap whole_lines (sym (append-nil xs)) ∙ whole_lines-append xs [] h
 

@@ -7,7 +7,6 @@ use Rattle.std.proofs.KnownBytes.{Consumes-nil, Consumes-trans}
 use Rattle.std.proofs.lemmas.Bool.{eqb-true}
 use Rattle.std.proofs.lemmas.List.{take-append-drop, drop_more, length-take, length-take-le, get_or-take, take-take, take_min}
 use Rattle.std.proofs.lemmas.List.Quantifiers.{position-Some}
-use Rattle.nt_link.specs.Causes.{StaysAtEnd, Aside}
 use Rattle.nt_cli.specs.Input.{piece_bytes}
 use Rattle.nt_cli.specs.LineReading.{most_line, is_feed, IsUnbroken, Ahead, Gives, Gathers, Reads, IsTooLong}
 use Rattle.nt_cli.proofs.LineFeeds.{unbroken-append, unbroken-before, unbroken-none}
@@ -16,7 +15,7 @@ use Rattle.nt_cli.proofs.LineFeeds.{unbroken-append, unbroken-before, unbroken-n
 pub record Feeds (bytes : List ℕ) (room count : ℕ) : Type 0 where
   pub below : count < room
   pub there : count < length bytes
-  pub front : take count (take room bytes) ≡ take count bytes
+  pub prefix : take count (take room bytes) ≡ take count bytes
   pub unbroken : IsUnbroken (take count bytes)
   pub whole : bytes ≡ take count bytes ++ 10 ∷ drop (count + 1) bytes
 
@@ -26,13 +25,13 @@ feeds bytes room count found =
     let len : length (take room bytes) ≡ min room (length bytes) = length-take room bytes in
     let below : count < room = omega (arith, at.0) in
     let there : count < length bytes = omega (arith, at.0) in
-    let front : take count (take room bytes) ≡ take count bytes = take-take count room bytes (omega arith) in
+    let prefix : take count (take room bytes) ≡ take count bytes = take-take count room bytes (omega arith) in
     let here : get_or bytes count 0 ≡ 10 = sym (get_or-take room bytes count 0 below) ∙ eqb-true _ _ at.1 in
     record {
       below = below;
       there = there;
-      front = front;
-      unbroken = subst IsUnbroken front (unbroken-before (take room bytes) count found);
+      prefix = prefix;
+      unbroken = subst IsUnbroken prefix (unbroken-before (take room bytes) count found);
       whole = sym (take-append-drop count bytes) ∙ ap (λ (l : List ℕ). take count bytes ++ l) (drop_more bytes count 0 there ∙ ap (λ (b : ℕ). b ∷ drop (count + 1) bytes) here);
     }
 
@@ -41,7 +40,7 @@ pub gathers-feed : (bytes : List ℕ) (room count : ℕ) (before now : List ℕ)
     → Gathers (record { bytes = bytes; room = room }) (record { bytes = drop (count + 1) bytes; room = room - (count + 1) }) before now (10 ∷ [])
 gathers-feed bytes room count before now f line = record {
   part = take count bytes;
-  line = line ∙ ap (λ (l : List ℕ). before ++ l) f.front;
+  line = line ∙ ap (λ (l : List ℕ). before ++ l) f.prefix;
   gives = record {
     whole = append-nil bytes ∙ f.whole;
     room = let len : length (take count bytes) ≡ count = length-take-le count bytes (omega (arith, f.there)) in let below = f.below in omega arith;
@@ -49,8 +48,8 @@ gathers-feed bytes room count before now f line = record {
   };
 }
 
-own-front : (bytes : List ℕ) (room : ℕ) → take (length (take room bytes)) bytes ≡ take room bytes
-own-front bytes room = ap (λ (n : ℕ). take n bytes) (length-take room bytes) ∙ take_min room bytes
+own-prefix : (bytes : List ℕ) (room : ℕ) → take (length (take room bytes)) bytes ≡ take room bytes
+own-prefix bytes room = ap (λ (n : ℕ). take n bytes) (length-take room bytes) ∙ take_min room bytes
 
 -- all that is ahead within the room was gathered, where there is no line feed
 pub gathers-all : (bytes : List ℕ) (room : ℕ) (before now : List ℕ) → position is_feed (take room bytes) ≡ None → now ≡ before ++ take room bytes
@@ -61,7 +60,7 @@ gathers-all bytes room before now none line =
       part = take room bytes;
       line = line;
       gives = record {
-        whole = append-nil bytes ∙ sym (take-append-drop (length (take room bytes)) bytes) ∙ ap (λ (l : List ℕ). l ++ drop (length (take room bytes)) bytes) (own-front bytes room);
+        whole = append-nil bytes ∙ sym (take-append-drop (length (take room bytes)) bytes) ∙ ap (λ (l : List ℕ). l ++ drop (length (take room bytes)) bytes) (own-prefix bytes room);
         room = omega arith;
         unbroken = unbroken-none (take room bytes) none;
       };
@@ -76,7 +75,7 @@ too_long-feed bytes room count before now f same long = record {
   within = let below = f.below in omega arith;
   unbroken = f.unbroken;
   beyond =
-      let len : length (take count (take room bytes)) ≡ count = ap length f.front ∙ length-take-le count bytes (omega (arith, f.there)) in
+      let len : length (take count (take room bytes)) ≡ count = ap length f.prefix ∙ length-take-le count bytes (omega (arith, f.there)) in
       let line : length now ≡ length before = ap length same in
       omega arith;
 }
@@ -90,11 +89,11 @@ too_long-all bytes room before now none same long =
       count = length (take room bytes);
       there = omega arith;
       within = omega arith;
-      unbroken = subst IsUnbroken (sym (own-front bytes room)) (unbroken-none (take room bytes) none);
+      unbroken = subst IsUnbroken (sym (own-prefix bytes room)) (unbroken-none (take room bytes) none);
       beyond = let line : length now ≡ length before = ap length same in omega arith;
     }
 
--- where bytes are left behind the room, it was filled
+-- where bytes are left after the room, it was filled
 pub room_filled : (bytes : List ℕ) (room : ℕ) → 0 < length (drop (length (take room bytes)) bytes) → room - length (take room bytes) ≡ 0
 room_filled bytes room some =
     let len : length (take room bytes) ≡ min room (length bytes) = length-take room bytes in
@@ -108,13 +107,6 @@ passed_on (Err y) x e h is = let same : y ≡ e = cc in sym h ∙ same
 
 -- ---- a line in several reads
 
--- what a loop over reads keeps: the line so far
-pub record ReadsSoFar (before now : Option (List ℕ)) (faults_before faults_now : ℕ) (aside_before aside_now : Aside) (old new : Ahead) (line : List ℕ) : Type 0 where
-  pub reads : Reads before now old new line []
-  pub later : faults_before ≤ faults_now
-  pub end : StaysAtEnd faults_before faults_now
-  pub aside : aside_now ≡ aside_before
-
 -- nothing was read yet
 pub reads-none : (before : Option (List ℕ)) (old : Ahead) → Reads before before old old [] []
 reads-none before old = record {
@@ -124,7 +116,7 @@ reads-none before old = record {
   short = omega arith;
 }
 
--- a part was gathered behind a line so far
+-- a part was gathered after a line so far
 pub reads-part : (before now : Option (List ℕ)) (old mid new : Ahead) (line more feed : List ℕ) → Reads before now old mid line [] → Gathers mid new line more feed → length more ≤ most_line
     → Reads before now old new more feed
 reads-part before now old mid new line more feed r g short =

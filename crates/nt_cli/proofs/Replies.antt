@@ -1,7 +1,7 @@
 -- The one reply to the bytes that a source had left.
-use Rattle.std.proofs.Common.{◌≡◌, ℕ, ◌<◌, ◌≤◌, inl, inr, List, [], ◌++◌, length, length-append, None, Some, refl, sym, ap, subst, ◌∙◌, arith}
+use Rattle.std.proofs.Common.{◌≡◌, ℕ, ◌<◌, ◌≤◌, inl, inr, List, [], ◌++◌, length, length-append, None, Some, Result, Ok, Err, refl, sym, ap, subst, ◌∙◌, arith}
 use Rattle.std.specs.declared.option.Option.{Option}
-use Rattle.std.specs.Io.KnownBytes.{Consumes, IsAtEnd}
+use Rattle.std.specs.Io.KnownBytes.{Consumes, IsAtEnd, Keeps}
 use Rattle.std.proofs.KnownBytes.{Consumes-all}
 use Rattle.wpilog_read.specs.declared.item_at.ItemAt.{ItemAt}
 use Rattle.wpilog_read.specs.declared.fault.LogFault.{LogFault}
@@ -9,9 +9,15 @@ use Rattle.wpilog_read.specs.Meaning.{Means}
 use Rattle.wpilog_read.specs.Run.{Reading, Stands}
 use Rattle.nt_cli.specs.Input.{most_bytes, ReadsAll, ReadsTooMany}
 use Rattle.nt_cli.specs.declared.words.LogTool.{LogTool}
-use Rattle.nt_cli.specs.declared.words.LogTool.TheVariants.{Check}
+use Rattle.nt_cli.specs.declared.words.LogTool.TheVariants.{Check, Show}
+use Rattle.nt_cli.specs.Lines.{summary}
 use Rattle.nt_cli.specs.Reply.{Reply}
-use Rattle.nt_cli.specs.Tool.{check_reply, too_many_reply, RepliesToLog, IsReply, RepliesToSource}
+use Rattle.nt_cli.specs.declared.status.Status.{Status}
+use Rattle.nt_cli.specs.declared.status.ToolFault.{ToolFault}
+use Rattle.nt_cli.specs.declared.status.ToolFault.TheVariants.{Memory, Read, Write}
+use Rattle.nt_cli.specs.Printing.{GivesReply, Follows}
+use Rattle.nt_cli.specs.LogTools.{too_many_reply, check_reply, log_reply, RepliesToLog, IsReply, RepliesToSource, GivesLog, EndsLog}
+use Rattle.nt_cli.proofs.Printing.{prefix-kept, gives-follows}
 
 -- what was read to the end is all that was left
 pub all_left : (before now : Option (List ℕ)) (taken bytes : List ℕ) → before ≡ Some bytes → Consumes before now taken → IsAtEnd now → taken ≡ bytes
@@ -53,12 +59,81 @@ pub left_many : (tool : LogTool) (before now : Option (List ℕ)) (bytes : List 
 left_many tool before now bytes reply many known is_reply =
     beyond_limit tool now many.bytes bytes reply (subst (λ (w : Option (List ℕ)). Consumes w now many.bytes) known many.taken) many.beyond is_reply
 
--- the one reply to bytes that were read to their end
-pub one_reply : (before now : Option (List ℕ)) (taken : List ℕ) (reply : Reply) → ReadsAll before now taken → ((other : Reply) → RepliesToLog Check taken other → other ≡ reply)
-    → (bytes : List ℕ) (other : Reply) → before ≡ Some bytes → IsReply Check bytes other → other ≡ reply
-one_reply before now taken reply reads only bytes other known is_reply =
-    let same = all_left before now taken bytes known reads.taken reads.ended in
-    only other (within_limit Check taken other reads.within (rw same is_reply))
+-- ---- what becomes of a reply
+
+-- by what was read to the end
+pub log-ends : (tool : LogTool) (before now : Option (List ℕ)) (bytes : List ℕ) (out_before out_now : Option (List ℕ)) (r : Result Status ToolFault) → ReadsAll before now bytes
+    → GivesLog tool bytes out_before out_now r → (tool ≡ Check → r ≡ Err Memory → Keeps out_before out_now) → EndsLog tool before now out_before out_now r
+log-ends tool before now bytes out_before out_now (Ok status) reads g memory =
+    (g.some.0, source_all tool before now bytes g.some.0 reads g.some.1, g.gives g.some.0 g.some.1)
+log-ends Check before now bytes out_before out_now (Err Memory) reads g memory = memory refl refl
+log-ends Show before now bytes out_before out_now (Err Memory) reads g memory =
+    inr (record { reply = g.some.0; replies = source_all Show before now bytes g.some.0 reads g.some.1; printed = g.gives g.some.0 g.some.1 })
+log-ends tool before now bytes out_before out_now (Err Read) reads g memory = absurd (g.gives g.some.0 g.some.1)
+log-ends tool before now bytes out_before out_now (Err Write) reads g memory =
+    (g.some.0, source_all tool before now bytes g.some.0 reads g.some.1, g.gives g.some.0 g.some.1)
+
+pub log-exact : (tool : LogTool) (before now : Option (List ℕ)) (taken : List ℕ) (out_before out_now : Option (List ℕ)) (r : Result Status ToolFault) → ReadsAll before now taken
+    → GivesLog tool taken out_before out_now r → (bytes : List ℕ) (reply : Reply) → before ≡ Some bytes → IsReply tool bytes reply → Follows reply out_before out_now r
+log-exact tool before now taken out_before out_now r reads g bytes reply known is_reply =
+    gives-follows reply out_before out_now r (g.gives reply (left_log tool before now taken bytes reply reads known is_reply))
+
+pub log-read : (tool : LogTool) (bytes : List ℕ) (before now : Option (List ℕ)) (r : Result Status ToolFault) → GivesLog tool bytes before now r → r ≡ Err Read → ⊥
+log-read tool bytes before now r g is = subst (λ (x : Result Status ToolFault). GivesReply g.some.0 before now x) is (g.gives g.some.0 g.some.1)
+
+-- where the source had more bytes than a tool reads
+pub many-ends : (tool : LogTool) (before now out_before out_now : Option (List ℕ)) (r : Result Status ToolFault) → ReadsTooMany before now
+    → GivesReply too_many_reply out_before out_now r → (r ≡ Err Memory → ⊥) → EndsLog tool before now out_before out_now r
+many-ends tool before now out_before out_now (Ok status) many g memory = (too_many_reply, source_many tool before now many, g)
+many-ends tool before now out_before out_now (Err Memory) many g memory = absurd (memory refl)
+many-ends tool before now out_before out_now (Err Read) many g memory = absurd g
+many-ends tool before now out_before out_now (Err Write) many g memory = (too_many_reply, source_many tool before now many, g)
+
+pub many-exact : (tool : LogTool) (before now out_before out_now : Option (List ℕ)) (r : Result Status ToolFault) → ReadsTooMany before now
+    → GivesReply too_many_reply out_before out_now r → (bytes : List ℕ) (reply : Reply) → before ≡ Some bytes → IsReply tool bytes reply → Follows reply out_before out_now r
+many-exact tool before now out_before out_now r many g bytes reply known is_reply =
+    gives-follows reply out_before out_now r (subst (λ (x : Reply). GivesReply x out_before out_now r) (sym (left_many tool before now bytes reply many known is_reply)) g)
+
+-- and where it was not read to its end
+pub unread-ends : (tool : LogTool) (before now out : Option (List ℕ)) (e : ToolFault) → Keeps out out → (e ≡ Write → ⊥) → EndsLog tool before now out out (Err e)
+unread-ends Check before now out Memory keeps read = keeps
+unread-ends Show before now out Memory keeps read = inl keeps
+unread-ends tool before now out Read keeps read = keeps
+unread-ends tool before now out Write keeps read = absurd (read refl)
+
+-- ---- the one reply to a log
+
+-- the law that bytes have a meaning
+abbrev pub HasMeaning : Type 0
+HasMeaning = (bytes : List ℕ) → (items : List ItemAt) × (fault : Option LogFault) × Means bytes items fault
+
+-- by it a log has a reply
+pub some-reply : HasMeaning → (tool : LogTool) (bytes : List ℕ) → length bytes ≤ most_bytes → (reply : Reply) × RepliesToLog tool bytes reply
+some-reply some tool bytes within =
+    let m = some bytes in
+    (log_reply tool (length bytes) m.0 m.1, record { items = m.0; fault = m.1; within = within; means = m.2; reply_is = refl })
+
+-- the law that bytes have one meaning
+abbrev pub HasOneMeaning : Type 0
+HasOneMeaning = (bytes : List ℕ) (items others : List ItemAt) (fault other : Option LogFault) → Means bytes items fault → Means bytes others other → (items ≡ others) × (fault ≡ other)
+
+-- by it a log has one reply
+pub one-reply : HasOneMeaning → (tool : LogTool) (bytes : List ℕ) (items : List ItemAt) (fault : Option LogFault) (reply : Reply) → Means bytes items fault → RepliesToLog tool bytes reply → reply ≡ log_reply tool (length bytes) items fault
+one-reply one tool bytes items fault reply means r =
+    let same = one bytes r.items items r.fault fault r.means means in
+    r.reply_is ∙ ap (λ (w : List ItemAt). log_reply tool (length bytes) w r.fault) same.0 ∙ ap (λ (w : Option LogFault). log_reply tool (length bytes) items w) same.1
+
+-- so that it is enough to give the reply by what the bytes mean
+pub gives-log : HasOneMeaning → (tool : LogTool) (bytes : List ℕ) (items : List ItemAt) (fault : Option LogFault) (before now : Option (List ℕ)) (r : Result Status ToolFault) → length bytes ≤ most_bytes → Means bytes items fault
+    → GivesReply (log_reply tool (length bytes) items fault) before now r → GivesLog tool bytes before now r
+gives-log one tool bytes items fault before now r within means g = record {
+  some = (log_reply tool (length bytes) items fault, record { items = items; fault = fault; within = within; means = means; reply_is = refl });
+  gives = λ reply replies. subst (λ (x : Reply). GivesReply x before now r) (sym (one-reply one tool bytes items fault reply means replies)) g;
+}
+
+-- for want of memory, where nothing was printed
+pub gives-none : HasMeaning → (tool : LogTool) (bytes : List ℕ) (out : Option (List ℕ)) → length bytes ≤ most_bytes → Keeps out out → GivesLog tool bytes out out (Err Memory)
+gives-none some tool bytes out within keeps = record { some = some-reply some tool bytes within; gives = λ reply replies. prefix-kept reply out out keeps }
 
 -- a reader that was fed these bytes, and how many items it gave
 pub record Counts (bytes : List ℕ) (count : ℕ) (reader : Reading) : Type 0 where
@@ -75,24 +150,7 @@ counts_all bytes count new fed last begins feeds gives =
     let given = gives bytes [] (feeds [] [] begins) in
     record { items = given.0; count_is = given.1; stands = given.2 }
 
--- the reply by what the reader gave is one by what the bytes mean
-pub checks_log : (bytes : List ℕ) (count : ℕ) (fault : Option LogFault) (reader : Reading) → length bytes ≤ most_bytes → Counts bytes count reader
-    → ((items : List ItemAt) → Stands bytes items reader → Means bytes items fault)
-    → (reply : Reply) → reply ≡ check_reply fault count (length bytes) → RepliesToLog Check bytes reply
-checks_log bytes count fault reader within counts meaning reply reply_is = record {
-  items = counts.items;
-  fault = fault;
-  within = within;
-  means = meaning counts.items counts.stands;
-  reply_is = rw counts.count_is reply_is;
-}
-
--- and no other reply is
-pub no_other_log : (bytes : List ℕ) (count : ℕ) (fault : Option LogFault) (reader : Reading) → Counts bytes count reader
-    → ((items others : List ItemAt) (other_fault : Option LogFault) → Stands bytes items reader → Means bytes others other_fault → (others ≡ items) × (other_fault ≡ fault))
-    → (reply : Reply) → reply ≡ check_reply fault count (length bytes) → (other : Reply) → RepliesToLog Check bytes other → other ≡ reply
-no_other_log bytes count fault reader counts only reply reply_is other checks =
-    let same = only counts.items checks.items checks.fault counts.stands checks.means in
-    let items_is : length checks.items ≡ count = ap length same.0 ∙ counts.count_is in
-    let fault_is : checks.fault ≡ fault = same.1 in
-    checks.reply_is ∙ rw (items_is, fault_is) (sym reply_is)
+-- the summary as the reply to a log without a fault
+pub gives-summary : (count items bytes : ℕ) (text : List ℕ) (before now : Option (List ℕ)) (r : Result Status ToolFault) → items ≡ count → text ≡ summary count bytes
+    → GivesReply (record { status = 0; text = text }) before now r → GivesReply (check_reply None items bytes) before now r
+gives-summary count items bytes text before now r count_is text_is g = rw count_is (rw text_is at g)

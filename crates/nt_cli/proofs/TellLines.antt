@@ -123,7 +123,7 @@ int64-size : (n : ℤ) → IsInt64 n → mag n < 2 ^ 63
 int64-size (pos n) small = small
 int64-size (negsuc n) small = small
 
--- behind the time and the id of a line stands the rest
+-- after the time and the id of a line stands the rest
 head-split : (time id time' id' : ℕ) (us vs : List ℕ) → time < 2 ^ 64 → id < 2 ^ 64 → time' < 2 ^ 64 → id' < 2 ^ 64
     → (decimal time ++ (32 ∷ decimal id)) ++ 32 ∷ us ≡ (decimal time' ++ (32 ∷ decimal id')) ++ 32 ∷ vs → (time ≡ time') × (id ≡ id') × (us ≡ vs)
 head-split time id time' id' us vs t i t' i' e =

@@ -1,33 +1,22 @@
 -- A desk at work: the history that its table stands for, and what it printed when it stopped.
 use Rattle.std.specs.Prelude.{◌≡◌, ◌≤◌, ℕ, ◌+◌, Bool, true, false, List, [], ◌++◌, length, Result, Ok, Err, Option, None, Some}
 use Rattle.std.specs.Io.KnownBytes.{Consumes, IsAtEnd, Appends}
-use Rattle.nt_history.specs.declared.act.Entry.{Entry}
-use Rattle.nt_history.specs.Now.{now_of, is_open_for}
-use Rattle.nt_history.specs.Step.{Kept, Stands}
-use Rattle.nt_cli.specs.declared.desk_output.DeskFault.{DeskFault}
-use Rattle.nt_cli.specs.declared.desk_output.DeskFault.TheVariants.{Memory, Read, Write}
+use Rattle.nt_rules.specs.declared.act.Entry.{Entry}
+use Rattle.nt_rules.specs.history.Now.{now_of, is_open_for}
+use Rattle.nt_rules.specs.history.Step.{ServerState, Represents}
+use Rattle.nt_cli.specs.declared.status.Status.{Status}
+use Rattle.nt_cli.specs.declared.status.ToolFault.{ToolFault}
+use Rattle.nt_cli.specs.declared.status.ToolFault.TheVariants.{Memory, Read, Write}
 use Rattle.nt_cli.specs.LineReading.{Ahead}
-use Rattle.nt_cli.specs.Reply.{Reply, IsGiven, IsFront, IsCutShort}
+use Rattle.nt_cli.specs.Reply.{Reply, IsGiven, IsPrefix, IsCutShort, with_text}
+use Rattle.nt_cli.specs.Printing.{number_of}
 use Rattle.nt_cli.specs.Input.{most_bytes, piece_bytes}
-use Rattle.nt_cli.specs.Desk.{Hearing, start, worker, conn, opened, with_text, reply_within}
+use Rattle.nt_cli.specs.Desk.{Decoding, start, worker, conn, opened, reply_within}
 
 -- the table stands for a history in which the desk's connection is open
-pub record Sits (server : Kept) (past : List Entry) : Type 0 where
-  pub stands : Stands server start past
+pub record IsConnected (server : ServerState) (past : List Entry) : Type 0 where
+  pub represents : Represents server start past
   pub is_there : is_open_for (now_of start past).connections worker conn ≡ true
-
--- ---- printing a text
-
--- a text as a reply, of which the text alone matters
-abbrev pub printing : List ℕ → Reply
-printing text = record { status = 0; text = text }
-
--- all of a text was printed, or a front of it for want of memory, or a write failed in the midst of it
-abbrev pub Prints : List ℕ → Option (List ℕ) → Option (List ℕ) → Result (Unit {0}) DeskFault → Type 0
-Prints text before now (Ok done) = Appends before now text
-Prints text before now (Err Memory) = IsFront (printing text) before now
-Prints text before now (Err Read) = ⊥
-Prints text before now (Err Write) = IsCutShort (printing text) before now
 
 -- ---- what was taken of the source
 
@@ -36,32 +25,32 @@ pub record Took (before now : Option (List ℕ)) (taken : List ℕ) (all : Bool)
   pub consumes : Consumes before now taken
   pub ended : all ≡ true → IsAtEnd now
 
--- what may stand behind the bytes that were taken: nothing, where they are all
+-- what may stand after the bytes that were taken: nothing, where they are all
 abbrev pub MayFollow : Bool → List ℕ → Type 0
 MayFollow true more = more ≡ []
 MayFollow false more = Unit {0}
 
 -- ---- a desk in the midst of its work
 
--- where a desk stands: how frames are heard, what is ahead of its lines, its history, and the number of the next line
-pub record Place : Type 0 where
-  pub hears : Hearing
+-- where a desk stands: how frames are decoded, what is ahead of its lines, its history, and the number of the next line
+pub record Progress : Type 0 where
+  pub decode : Decoding
   pub ahead : Ahead
   pub past : List Entry
   pub number : ℕ
 
 -- the reply that is still to be given, where these bytes are taken from here on
-abbrev pub left_reply : Place → List ℕ → Reply
-left_reply from bytes = reply_within from.hears from.ahead.room from.past from.number (from.ahead.bytes ++ bytes)
+abbrev pub left_reply : Progress → List ℕ → Reply
+left_reply from bytes = reply_within from.decode from.ahead.room from.past from.number (from.ahead.bytes ++ bytes)
 
 -- where a desk begins
-abbrev pub beginning : Hearing → Place
-beginning hears = record { hears = hears; ahead = record { bytes = []; room = most_bytes }; past = opened; number = 1 }
+abbrev pub beginning : Decoding → Progress
+beginning decode = record { decode = decode; ahead = record { bytes = []; room = most_bytes }; past = opened; number = 1 }
 
 -- ---- how it ends
 
 -- the reply was given: what was taken settles it, whatever follows
-pub record Settles (from : Place) (before now out_before out_now : Option (List ℕ)) (status : ℕ) : Type 0 where
+pub record Settles (from : Progress) (before now out_before out_now : Option (List ℕ)) (status : ℕ) : Type 0 where
   pub taken : List ℕ
   pub all : Bool
   pub took : Took before now taken all
@@ -69,23 +58,23 @@ pub record Settles (from : Place) (before now out_before out_now : Option (List 
   pub finished : status ≡ 0 → all ≡ true
   pub given : (more : List ℕ) → MayFollow all more → IsGiven (left_reply from (taken ++ more)) status out_before out_now
 
--- a front of the reply was printed
-pub record Stops (from : Place) (before now out_before out_now : Option (List ℕ)) : Type 0 where
+-- a prefix of the reply was printed
+pub record Stops (from : Progress) (before now out_before out_now : Option (List ℕ)) : Type 0 where
   pub taken : List ℕ
   pub all : Bool
   pub took : Took before now taken all
-  pub front : (more : List ℕ) → MayFollow all more → IsFront (left_reply from (taken ++ more)) out_before out_now
+  pub prefix : (more : List ℕ) → MayFollow all more → IsPrefix (left_reply from (taken ++ more)) out_before out_now
 
--- a front of the reply was printed that isn't all of it
-pub record Breaks (from : Place) (before now out_before out_now : Option (List ℕ)) : Type 0 where
+-- a prefix of the reply was printed that isn't all of it
+pub record Breaks (from : Progress) (before now out_before out_now : Option (List ℕ)) : Type 0 where
   pub taken : List ℕ
   pub all : Bool
   pub took : Took before now taken all
   pub cut : (more : List ℕ) → MayFollow all more → IsCutShort (left_reply from (taken ++ more)) out_before out_now
 
 -- by the status, or by what failed
-abbrev pub Ends : Place → Option (List ℕ) → Option (List ℕ) → Option (List ℕ) → Option (List ℕ) → Result ℕ DeskFault → Type 0
-Ends from before now out_before out_now (Ok status) = Settles from before now out_before out_now status
+abbrev pub Ends : Progress → Option (List ℕ) → Option (List ℕ) → Option (List ℕ) → Option (List ℕ) → Result Status ToolFault → Type 0
+Ends from before now out_before out_now (Ok status) = Settles from before now out_before out_now (number_of status)
 Ends from before now out_before out_now (Err Memory) = Stops from before now out_before out_now
 Ends from before now out_before out_now (Err Read) = Stops from before now out_before out_now
 Ends from before now out_before out_now (Err Write) = Breaks from before now out_before out_now
@@ -93,18 +82,18 @@ Ends from before now out_before out_now (Err Write) = Breaks from before now out
 -- ---- how it goes on
 
 -- a text was printed, which the reply begins with, and the rest of the reply is still to be given
-pub record GoesOn (from : Place) (before now out_before out_now : Option (List ℕ)) (server : Kept) (ahead : Ahead) (number : ℕ) : Type 0 where
+pub record GoesOn (from : Progress) (before now out_before out_now : Option (List ℕ)) (server : ServerState) (ahead : Ahead) (number : ℕ) : Type 0 where
   pub taken : List ℕ
   pub text : List ℕ
   pub past : List Entry
   pub consumes : Consumes before now taken
   pub size : length from.ahead.bytes + length taken + ahead.room ≡ from.ahead.room + length ahead.bytes
   pub printed : Appends out_before out_now text
-  pub sits : Sits server past
-  pub same : (more : List ℕ) → left_reply from (taken ++ more) ≡ with_text text (left_reply (record { hears = from.hears; ahead = ahead; past = past; number = number }) more)
+  pub connected : IsConnected server past
+  pub same : (more : List ℕ) → left_reply from (taken ++ more) ≡ with_text text (left_reply (record { decode = from.decode; ahead = ahead; past = past; number = number }) more)
 
 -- a line was read and answered, or the desk ended
-abbrev pub Turns : Place → Option (List ℕ) → Option (List ℕ) → Option (List ℕ) → Option (List ℕ) → Kept → Ahead → ℕ → Result (Option ℕ) DeskFault → Type 0
+abbrev pub Turns : Progress → Option (List ℕ) → Option (List ℕ) → Option (List ℕ) → Option (List ℕ) → ServerState → Ahead → ℕ → Result (Option Status) ToolFault → Type 0
 Turns from before now out_before out_now server ahead number (Ok None) = GoesOn from before now out_before out_now server ahead number
 Turns from before now out_before out_now server ahead number (Ok (Some status)) = Ends from before now out_before out_now (Ok status)
 Turns from before now out_before out_now server ahead number (Err fault) = Ends from before now out_before out_now (Err fault)

@@ -5,7 +5,7 @@ use Rattle.hex.specs.Hex.{encode_lower}
 abbrev pub hex_word : List ℕ
 hex_word = codes "hex "
 
--- whether a line is a binary frame, and what then stands behind the word
+-- whether a line is a binary frame, and what then stands after the word
 abbrev pub is_binary : List ℕ → Bool
 is_binary line = bytes_eq (take 4 line) hex_word
 

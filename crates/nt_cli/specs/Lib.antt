@@ -3,6 +3,8 @@ pub mod Input
 pub mod Lines
 pub mod ItemLines
 pub mod Reply
+pub mod Printing
+pub mod LogTools
 pub mod LineReading
 pub mod Hexadecimal
 pub mod Desk

@@ -52,7 +52,7 @@ pub record Gathers (old new : Ahead) (before now feed : List ℕ) : Type 0 where
   pub line : now ≡ before ++ part
   pub gives : Gives old new [] part feed
 
--- a line, or its front where none is answered, was read
+-- a line, or its prefix where none is answered, was read
 pub record Reads (before now : Option (List ℕ)) (old new : Ahead) (line feed : List ℕ) : Type 0 where
   pub taken : List ℕ
   pub consumes : Consumes before now taken

@@ -1,11 +1,10 @@
 -- How `show` prints as it goes.
-use Rattle.std.specs.Prelude.{◌≡◌, ℕ, ◌≤◌, List, ◌++◌, Option}
+use Rattle.std.specs.Prelude.{◌≡◌, ℕ, List, ◌++◌, Option}
 use Rattle.std.specs.Io.KnownBytes.{Appends}
 use Rattle.wpilog_read.specs.declared.item_at.ItemAt.{ItemAt}
 use Rattle.wpilog_read.specs.declared.fault.LogFault.{LogFault}
 use Rattle.wpilog_read.specs.Meaning.{Means}
 use Rattle.nt_cli.specs.ItemLines.{placed_lines}
-use Rattle.nt_cli.specs.Reply.{Reply, IsGiven, IsFront, IsCutShort}
 
 -- these lines were printed, but for this rest of them
 pub record HasPrinted (lines rest : List ℕ) (before now : Option (List ℕ)) : Type 0 where
@@ -22,10 +21,3 @@ pub record HasStopped (bytes rest : List ℕ) (before now : Option (List ℕ)) :
   pub items : List ItemAt
   pub begins : BeginsItems bytes items
   pub printed : HasPrinted (placed_lines items) rest before now
-
--- what becomes of a reply that is printed as it is made, by the status: it is given, or a front of it is printed, which is
--- not all of it where a write failed
-pub record Becomes (reply : Reply) (status : ℕ) (before now : Option (List ℕ)) : Type 0 where
-  pub given : status ≤ 2 → IsGiven reply status before now
-  pub front : IsFront reply before now
-  pub cut_short : status ≡ 4 → IsCutShort reply before now

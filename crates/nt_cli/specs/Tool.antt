@@ -1,69 +1,17 @@
 -- What the tools reply.
-use Rattle.std.specs.Prelude.{◌≡◌, ◌⊎◌, ℕ, ◌+◌, ◌<◌, ◌≤◌, List, ◌++◌, length, Option, None, Some}
-use Rattle.std.specs.Io.KnownBytes.{Consumes, IsAtEnd, Keeps}
-use Rattle.wpilog_read.specs.declared.item_at.ItemAt.{ItemAt}
-use Rattle.wpilog_read.specs.declared.fault.LogFault.{LogFault}
-use Rattle.wpilog_read.specs.Meaning.{Means}
-use Rattle.nt_cli.specs.declared.words.LogTool.{LogTool}
-use Rattle.nt_cli.specs.declared.words.LogTool.TheVariants.{Check, Show}
+use Rattle.std.specs.Prelude.{◌≡◌, ℕ, List, Option, None, Some, Result, Ok, Err}
+use Rattle.std.specs.Io.KnownBytes.{Keeps}
 use Rattle.nt_cli.specs.declared.words.Tool.{Tool}
 use Rattle.nt_cli.specs.declared.words.Tool.TheVariants.{Log, Desk}
-use Rattle.nt_cli.specs.Reply.{Reply, IsFront, IsCutShort}
+use Rattle.nt_cli.specs.declared.status.Status.{Status}
+use Rattle.nt_cli.specs.declared.status.ToolFault.{ToolFault}
+use Rattle.nt_cli.specs.declared.status.ToolFault.TheVariants.{Memory, Read, Write}
+use Rattle.nt_cli.specs.Reply.{Reply, IsGiven, IsCutShort}
 use Rattle.nt_cli.specs.Words.{tool_of}
-use Rattle.nt_cli.specs.Input.{most_bytes, piece_bytes}
-use Rattle.nt_cli.specs.Lines.{summary, fault_line, too_long, usage}
-use Rattle.nt_cli.specs.ItemLines.{placed_lines}
-use Rattle.nt_cli.specs.Desk.{RepliesAtDesk, RepliesToTaken, DeskBegun, DeskBroken}
-
--- ---- what the tools that read a log reply to the bytes of their source
-
--- the reply to more bytes than a tool reads
-abbrev pub too_many_reply : Reply
-too_many_reply = record { status = 1; text = too_long }
-
--- `check`: the reply to a log with this fault or none, and this many items and bytes
-abbrev pub check_reply : Option LogFault → ℕ → ℕ → Reply
-check_reply None items bytes = record { status = 0; text = summary items bytes }
-check_reply (Some fault) items bytes = record { status = 1; text = fault_line fault }
-
--- a reply of these lines, and behind them the line of the fault if there is one
-abbrev pub lines_reply : Option LogFault → List ℕ → Reply
-lines_reply None lines = record { status = 0; text = lines }
-lines_reply (Some fault) lines = record { status = 1; text = lines ++ fault_line fault }
-
--- `show`: the reply to a log with this fault or none, and these items
-abbrev pub show_reply : Option LogFault → List ItemAt → Reply
-show_reply fault items = lines_reply fault (placed_lines items)
-
--- the reply to a log of so many bytes that means these items, and then this fault or none
-abbrev pub log_reply : LogTool → ℕ → List ItemAt → Option LogFault → Reply
-log_reply Check bytes items fault = check_reply fault (length items) bytes
-log_reply Show bytes items fault = show_reply fault items
-
--- the tool replies so to these bytes, by what they mean as a log
-pub record RepliesToLog (tool : LogTool) (bytes : List ℕ) (reply : Reply) : Type 0 where
-  pub items : List ItemAt
-  pub fault : Option LogFault
-  pub within : length bytes ≤ most_bytes
-  pub means : Means bytes items fault
-  pub reply_is : reply ≡ log_reply tool (length bytes) items fault
-
--- a tool replies so to more bytes than it reads
-pub record RepliesToTooMany (bytes : List ℕ) (reply : Reply) : Type 0 where
-  pub beyond : most_bytes < length bytes
-  pub reply_is : reply ≡ too_many_reply
-
--- the reply of a tool to a source that has these bytes left
-abbrev pub IsReply : LogTool → List ℕ → Reply → Type 0
-IsReply tool bytes reply = RepliesToLog tool bytes reply ⊎ RepliesToTooMany bytes reply
-
--- the tool replies so to the bytes that it took of the source: all that were left, or more than a tool reads, by a piece at most
-pub record RepliesToSource (tool : LogTool) (before now : Option (List ℕ)) (reply : Reply) : Type 0 where
-  pub bytes : List ℕ
-  pub taken : Consumes before now bytes
-  pub ended : length bytes ≤ most_bytes → IsAtEnd now
-  pub bounded : length bytes ≤ most_bytes + piece_bytes
-  pub replies : IsReply tool bytes reply
+use Rattle.nt_cli.specs.Lines.{usage}
+use Rattle.nt_cli.specs.Printing.{number_of}
+use Rattle.nt_cli.specs.LogTools.{IsReply, RepliesToSource, StopsLog, EndsLog}
+use Rattle.nt_cli.specs.Desk.{RepliesAtDesk, RepliesToTaken, DeskBegun, DeskBroken, EndsDesk}
 
 -- ---- all words
 
@@ -93,24 +41,17 @@ Decides words before now reply = DecidesBy (tool_of words) before now reply
 
 -- ---- what becomes of a reply
 
--- a front of the reply by what was taken of the source was printed
-pub record HasBegun (tool : LogTool) (before now out_before out_now : Option (List ℕ)) : Type 0 where
-  pub reply : Reply
-  pub replies : RepliesToSource tool before now reply
-  pub printed : IsFront reply out_before out_now
-
--- what stands printed for want of memory: nothing, or, where a tool prints as it goes, a front of the reply
+-- what stands printed for want of memory: nothing, or, where a tool prints as it goes, a prefix of the reply
 abbrev pub StopsBy : Option Tool → Option (List ℕ) → Option (List ℕ) → Option (List ℕ) → Option (List ℕ) → Type 0
 StopsBy None before now out_before out_now = Keeps out_before out_now
-StopsBy (Some (Log Check)) before now out_before out_now = Keeps out_before out_now
-StopsBy (Some (Log Show)) before now out_before out_now = Keeps out_before out_now ⊎ HasBegun Show before now out_before out_now
+StopsBy (Some (Log tool)) before now out_before out_now = StopsLog tool before now out_before out_now
 StopsBy (Some Desk) before now out_before out_now = DeskBegun before now out_before out_now
 
 -- the same of these words
 abbrev pub Stops : List (List ℕ) → Option (List ℕ) → Option (List ℕ) → Option (List ℕ) → Option (List ℕ) → Type 0
 Stops words before now out_before out_now = StopsBy (tool_of words) before now out_before out_now
 
--- what stands printed where a read failed: nothing, or, where a tool answers as it reads, a front of the reply
+-- what stands printed where a read failed: nothing, or, where a tool answers as it reads, a prefix of the reply
 abbrev pub UnreadBy : Option Tool → Option (List ℕ) → Option (List ℕ) → Option (List ℕ) → Option (List ℕ) → Type 0
 UnreadBy None before now out_before out_now = Keeps out_before out_now
 UnreadBy (Some (Log tool)) before now out_before out_now = Keeps out_before out_now
@@ -120,7 +61,7 @@ UnreadBy (Some Desk) before now out_before out_now = DeskBegun before now out_be
 abbrev pub Unread : List (List ℕ) → Option (List ℕ) → Option (List ℕ) → Option (List ℕ) → Option (List ℕ) → Type 0
 Unread words before now out_before out_now = UnreadBy (tool_of words) before now out_before out_now
 
--- what stands printed where a write failed: a front of the reply that isn't all of it
+-- what stands printed where a write failed: a prefix of the reply that isn't all of it
 abbrev pub UnwrittenBy : Option Tool → Option (List ℕ) → Option (List ℕ) → Option (List ℕ) → Option (List ℕ) → Type 0
 UnwrittenBy None before now out_before out_now = (reply : Reply) × DecidesBy None before now reply × IsCutShort reply out_before out_now
 UnwrittenBy (Some (Log tool)) before now out_before out_now = (reply : Reply) × RepliesToSource tool before now reply × IsCutShort reply out_before out_now
@@ -129,3 +70,20 @@ UnwrittenBy (Some Desk) before now out_before out_now = DeskBroken before now ou
 -- the same of these words
 abbrev pub Unwritten : List (List ℕ) → Option (List ℕ) → Option (List ℕ) → Option (List ℕ) → Option (List ℕ) → Type 0
 Unwritten words before now out_before out_now = UnwrittenBy (tool_of words) before now out_before out_now
+
+-- the reply to words that no tool has was given so far, by the result
+abbrev pub EndsUsage : Option (List ℕ) → Option (List ℕ) → Option (List ℕ) → Option (List ℕ) → Result Status ToolFault → Type 0
+EndsUsage before now out_before out_now (Ok status) = (now ≡ before) × IsGiven usage_reply (number_of status) out_before out_now
+EndsUsage before now out_before out_now (Err Memory) = Keeps out_before out_now
+EndsUsage before now out_before out_now (Err Read) = Keeps out_before out_now
+EndsUsage before now out_before out_now (Err Write) = (now ≡ before) × IsCutShort usage_reply out_before out_now
+
+-- what becomes of the reply to words with this tool or none, by the result
+abbrev pub EndsBy : Option Tool → Option (List ℕ) → Option (List ℕ) → Option (List ℕ) → Option (List ℕ) → Result Status ToolFault → Type 0
+EndsBy None before now out_before out_now result = EndsUsage before now out_before out_now result
+EndsBy (Some (Log tool)) before now out_before out_now result = EndsLog tool before now out_before out_now result
+EndsBy (Some Desk) before now out_before out_now result = EndsDesk before now out_before out_now result
+
+-- the same of these words
+abbrev pub Ends : List (List ℕ) → Option (List ℕ) → Option (List ℕ) → Option (List ℕ) → Option (List ℕ) → Result Status ToolFault → Type 0
+Ends words before now out_before out_now result = EndsBy (tool_of words) before now out_before out_now result

@@ -5,7 +5,7 @@ ghost use Rattle.nt_cli.specs.Hexadecimal.{is_binary, digits_in, is_blank, digit
 
 use std::alloc::{AllocError, Global};
 
-/// What stands behind `hex ` in a line that begins with it.
+/// What stands after `hex ` in a line that begins with it.
 pub fn digits_in(line: &[u8]) -> Option<&[u8]>
     ensures { MatchOption result (is_binary line.now ≡ false)
         (λ digits. (is_binary line.now ≡ true) × (digits.now ≡ digits_in line.now)) }
@@ -30,7 +30,7 @@ fn spaced_bytes(alloc: Global, text: &[u8]) -> Result<Option<Vec<u8>>, AllocErro
 {
     let mut bytes = Vec::new(alloc);
     let mut rest = text;
-    while let [first, second, behind @ ..] = rest {
+    while let [first, second, after @ ..] = rest {
         if is_blank(*first) {
             rest = &rest[1..];
         } else {
@@ -38,7 +38,7 @@ fn spaced_bytes(alloc: Global, text: &[u8]) -> Result<Option<Vec<u8>>, AllocErro
                 return Ok(None);
             };
             bytes.push(byte)?;
-            rest = behind;
+            rest = after;
         }
     }
     if rest.is_empty() {

@@ -1,12 +1,12 @@
 //! Reading a source to its end.
 
-ghost use Rattle.std.specs.Prelude.{◌≡◌, ◌≤◌, IfOk, IsErrOf};
-ghost use Rattle.nt_link.specs.Causes.{Rose, StaysAtEnd};
+ghost use Rattle.std.specs.Prelude.{IfOk, IsErrOf};
+ghost use Rattle.nt_link.specs.Causes.{Rose, IsLater};
 ghost use Rattle.nt_cli.specs.Input.{IsInput};
-ghost use Rattle.nt_cli.specs.declared.input.InputFault.TheVariants.{Memory};
 
+use crate::status::ToolFault;
 use nt_link::Source;
-use std::alloc::{AllocError, Global};
+use std::alloc::Global;
 
 /// The most bytes that a tool reads.
 pub const MOST_BYTES: usize = 1 << 40;
@@ -15,7 +15,7 @@ pub const MOST_BYTES: usize = 1 << 40;
 pub const PIECE: usize = 1 << 16;
 
 /// What a source had left.
-#[derive(Debug, Drop)]
+#[derive(Drop)]
 pub enum Input {
     /// These bytes.
     All(Vec<u8>),
@@ -23,37 +23,18 @@ pub enum Input {
     TooMany,
 }
 
-/// Why a source was not read to its end.
-#[derive(Clone, Copy, Debug, PartialEq, Eq)]
-pub enum InputFault {
-    /// Want of memory.
-    Memory,
-    /// A read failed.
-    Failed,
-}
-
-impl From<AllocError> for InputFault {
-    ghost from_gives = { λ _ e. e ≡ Memory };
-
-    fn from(_error: AllocError) -> InputFault {
-        InputFault::Memory
-    }
-}
-
 /// Reads what the source has left.
-pub fn read_all<R: Source>(alloc: Global, source: &mut R) -> Result<Input, InputFault>
+pub fn read_all<R: Source>(alloc: Global, source: &mut R) -> Result<Input, ToolFault>
     ensures input { IfOk result (IsInput (R.left source.old) (R.left source.new)) }
-    ensures failed { IsErrOf result InputFault.Failed →
-        Rose (R.faults source.old) (R.faults source.new) }
-    ensures later { R.faults source.old ≤ R.faults source.new }
-    ensures end { StaysAtEnd (R.faults source.old) (R.faults source.new) }
-    ensures aside { R.aside source.new ≡ R.aside source.old }
+    ensures read { IsErrOf result ToolFault.Read → Rose (R.faults source.old) (R.faults source.new) }
+    ensures no_write { IsErrOf result ToolFault.Write → ⊥ }
+    ensures source { IsLater R.faults R.aside source.old source.new }
 {
     let mut bytes = Vec::new(alloc);
     let mut piece = [0; PIECE];
     loop {
         let Ok(count) = source.read(&mut piece) else {
-            return Err(InputFault::Failed);
+            return Err(ToolFault::Read);
         };
         if count == 0 {
             return Ok(Input::All(bytes));

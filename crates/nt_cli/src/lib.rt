@@ -4,20 +4,21 @@
 mod check;
 mod desk;
 mod desk_output;
-mod heard;
 mod hexadecimal;
 mod input;
 mod item_line;
 mod laws;
 mod line;
+mod log_tool;
+mod messages;
 mod output;
 mod piece;
-mod reply;
-mod round;
 mod show;
+mod status;
 mod tool;
+mod turn;
 mod words;
 
-pub use laws::line_tells_item;
+pub use laws::{line_tells_item, nothing_is_owed_after_a_turn};
 pub use tool::run_tool;
 pub use words::{ToolFiles, UsageFault, tool_files};

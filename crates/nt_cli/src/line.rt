@@ -3,7 +3,7 @@
 ghost use Rattle.std.specs.Prelude.{◌≡◌, ◌≢◌, ◌≤◌, ◌<◌, ◌+◌, ◌-◌, ◌++◌, ◌⊎◌, ◌↔◌, [], length, take, drop, true, false, IfOk, IfErr, OnOk, OnErr, IsErrOf, IsTrue};
 ghost use Rattle.std.specs.List.{position};
 ghost use Rattle.std.specs.Io.KnownBytes.{Consumes, Keeps, IsAtEnd};
-ghost use Rattle.nt_link.specs.Causes.{Rose, StaysAtEnd};
+ghost use Rattle.nt_link.specs.Causes.{Rose, IsLater};
 ghost use Rattle.nt_cli.specs.Input.{most_bytes, piece_bytes};
 ghost use Rattle.nt_cli.specs.LineReading.{most_line, is_feed, Reads, Gathers, feed_gathered, feed_read, IsTooLong};
 ghost use Rattle.nt_cli.specs.declared.line.LineFault.TheVariants.{Memory};
@@ -18,7 +18,7 @@ use std::marker::Model;
 const MOST_LINE: usize = 1 << 20;
 
 /// How a line ended.
-#[derive(Clone, Copy, Debug, PartialEq, Eq)]
+#[derive(Clone, Copy)]
 pub enum LineEnd {
     /// By a line feed.
     Feed,
@@ -27,7 +27,7 @@ pub enum LineEnd {
 }
 
 /// Why no line was read.
-#[derive(Clone, Copy, Debug, PartialEq, Eq)]
+#[derive(Clone, Copy)]
 pub enum LineFault {
     /// The line has more bytes than a line may have.
     TooLong,
@@ -49,7 +49,7 @@ impl From<AllocError> for LineFault {
 
 /// Reads the lines of a source, which has more bytes than a tool reads where they don't fit into
 /// the room. It reads on only where what is ahead holds no whole line.
-#[derive(Debug, Drop)]
+#[derive(Drop)]
 pub struct LineReader {
     piece: Piece,
     room: usize,
@@ -98,9 +98,7 @@ impl LineReader {
             Rose (R.faults source.old) (R.faults source.new) }
         ensures most { length self.new.bytes ≤ piece_bytes }
 
-        ensures later { R.faults source.old ≤ R.faults source.new }
-        ensures end { StaysAtEnd (R.faults source.old) (R.faults source.new) }
-        ensures aside { R.aside source.new ≡ R.aside source.old }
+        ensures source { IsLater R.faults R.aside source.old source.new }
     {
         line.clear();
         loop {
@@ -180,9 +178,7 @@ impl LineReader {
         ensures room { self.new.room ≡ self.old.room }
         ensures most { length self.new.bytes ≤ piece_bytes }
 
-        ensures later { R.faults source.old ≤ R.faults source.new }
-        ensures end { StaysAtEnd (R.faults source.old) (R.faults source.new) }
-        ensures aside { R.aside source.new ≡ R.aside source.old }
+        ensures source { IsLater R.faults R.aside source.old source.new }
     {
         if self.piece.refill(source).is_err() {
             return Err(LineFault::Failed);
@@ -208,7 +204,7 @@ fn extend(line: &mut Vec<u8>, bytes: &[u8]) -> Result<(), LineFault>
     Ok(())
 }
 
-/// The place of the first line feed.
+/// The index of the first line feed.
 fn line_feed(bytes: &[u8]) -> Option<usize>
     ensures { result ≡ position is_feed bytes.now }
 {

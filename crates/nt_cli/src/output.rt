@@ -1,48 +1,61 @@
 //! Printing.
 
-ghost use Rattle.std.specs.Prelude.{◌≡◌, ◌≢◌, ◌<◌, ◌≤◌, IfOk};
-ghost use Rattle.nt_link.specs.Causes.{Rose, StaysAtEnd};
-ghost use Rattle.nt_cli.specs.Reply.{Reply, IsGiven, IsFront, IsCutShort};
-ghost use Rattle.nt_cli.specs.Show.{Becomes};
+ghost use Rattle.std.specs.Prelude.{◌≡◌, ◌≤◌, IfOk, IfErr, OnErr, IsErrOf, string_bytes};
+ghost use Rattle.std.specs.Io.KnownBytes.{Keeps};
+ghost use Rattle.nt_link.specs.Causes.{Rose, IsLater};
+ghost use Rattle.nt_cli.specs.LogTools.{lines_reply};
+ghost use Rattle.nt_cli.specs.Printing.{Prints, GivesReply, number_of};
 
-use crate::reply::ToolReply;
+use crate::status::{Status, ToolFault};
 use nt_link::{Sink, write_all};
-use std::alloc::AllocError;
+use wpilog_read::LogFault;
 
-/// Prints the text of a reply, and answers its status, or 4 where a write failed.
-pub fn tell<O: Sink>(out: &mut O, status: u8, text: &str) -> u8
-    requires { status < 3 }
-    ensures given { result ≢ 4 → IsGiven (record { status = status; text = text.now }) result
-        (O.taken out.old) (O.taken out.new) }
-    ensures cut_short { result ≡ 4 → IsCutShort (record { status = status; text = text.now })
-        (O.taken out.old) (O.taken out.new) }
-    ensures front { IsFront (record { status = status; text = text.now })
-        (O.taken out.old) (O.taken out.new) }
-    ensures failed { result ≡ 4 → Rose (O.faults out.old) (O.faults out.new) }
-    ensures later { O.faults out.old ≤ O.faults out.new }
-    ensures end { StaysAtEnd (O.faults out.old) (O.faults out.new) }
-    ensures aside { O.aside out.new ≡ O.aside out.old }
+/// What is printed of a source that has more bytes than a tool reads.
+pub const TOO_LONG: &str = "fault TooLong at 1099511627776\n";
+
+/// Prints a text in one piece.
+pub fn print<O: Sink>(out: &mut O, text: &str) -> Result<(), ToolFault>
+    ensures prints { Prints text.now (O.taken out.old) (O.taken out.new) result }
+    ensures only { IfErr result (λ fault. fault ≡ ToolFault.Write) }
+    ensures failed { OnErr result (Rose (O.faults out.old) (O.faults out.new)) }
+    ensures out { IsLater O.faults O.aside out.old out.new }
 {
-    match write_all(out, text.as_bytes()) {
-        Ok(()) => status,
-        Err(_) => 4,
-    }
+    write_all(out, text.as_bytes())?;
+    Ok(())
 }
 
-/// Prints a reply that was made, and answers its status, or 3 where there was no memory to make it.
-pub fn tell_made<O: Sink>(made: Result<ToolReply, AllocError>, out: &mut O) -> u8
-    requires { IfOk made (λ reply. reply.status ≤ 1) }
-    ensures becomes { (reply : Reply) → IfOk made (λ text. text ≡ reply)
-        → Becomes reply result (O.taken out.old) (O.taken out.new) }
-    ensures failed { result ≡ 4 → Rose (O.faults out.old) (O.faults out.new) }
-    ensures not_usage { result ≢ 2 }
-    ensures most { result ≤ 4 }
-    ensures later { O.faults out.old ≤ O.faults out.new }
-    ensures end { StaysAtEnd (O.faults out.old) (O.faults out.new) }
-    ensures aside { O.aside out.new ≡ O.aside out.old }
+/// Prints the text of a reply, and answers its status.
+pub fn tell<O: Sink>(out: &mut O, status: Status, text: &str) -> Result<Status, ToolFault>
+    ensures gives { GivesReply (record { status = number_of status; text = text.now })
+        (O.taken out.old) (O.taken out.new) result }
+    ensures status { IfOk result (λ given. given ≡ status) }
+    ensures only { IfErr result (λ fault. fault ≡ ToolFault.Write) }
+    ensures failed { OnErr result (Rose (O.faults out.old) (O.faults out.new)) }
+    ensures out { IsLater O.faults O.aside out.old out.new }
 {
-    match made {
-        Ok(reply) => tell(out, reply.status, reply.text.as_str()),
-        Err(AllocError) => 3,
+    print(out, text)?;
+    Ok(status)
+}
+
+/// Prints the last lines of a log, and after them the line of its fault if there is one, and answers
+/// the log's status.
+pub fn end_log<O: Sink>(
+    out: &mut O,
+    mut lines: String,
+    fault: Option<LogFault>,
+) -> Result<Status, ToolFault>
+    ensures gives { GivesReply (lines_reply fault (string_bytes lines))
+        (O.taken out.old) (O.taken out.new) result }
+    ensures low { IfOk result (λ status. number_of status ≤ 1) }
+    ensures memory { IsErrOf result ToolFault.Memory → Keeps (O.taken out.old) (O.taken out.new) }
+    ensures failed { IsErrOf result ToolFault.Write → Rose (O.faults out.old) (O.faults out.new) }
+    ensures out { IsLater O.faults O.aside out.old out.new }
+{
+    match fault {
+        None => tell(out, Status::Done, lines.as_str()),
+        Some(LogFault { at, kind }) => {
+            writeln!(lines, "fault {kind} at {at}")?;
+            tell(out, Status::Fault, lines.as_str())
+        }
     }
 }

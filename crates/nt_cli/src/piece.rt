@@ -2,7 +2,7 @@
 
 ghost use Rattle.std.specs.Prelude.{◌≡◌, ◌≤◌, ◌↔◌, [], length, drop, IfOk, OnErr, IsTrue};
 ghost use Rattle.std.specs.Io.KnownBytes.{Consumes, Keeps, IsAtEnd};
-ghost use Rattle.nt_link.specs.Causes.{HasCause, StaysAtEnd};
+ghost use Rattle.nt_link.specs.Causes.{Rose, IsLater};
 ghost use Rattle.nt_cli.specs.Input.{piece_bytes};
 
 use crate::input::PIECE;
@@ -11,7 +11,7 @@ use std::alloc::{AllocError, Global};
 use std::marker::Model;
 
 /// The bytes of one read that weren't given yet. Contracts see them as a list.
-#[derive(Debug, Drop)]
+#[derive(Drop)]
 pub struct Piece {
     buf: Vec<u8>,
     at: usize,
@@ -77,9 +77,8 @@ impl Piece {
         ensures ended { IfOk result (λ _. self.new ≡ [] → IsAtEnd (R.left source.new)) }
         ensures failed { OnErr result (Keeps (R.left source.old) (R.left source.new)) }
         ensures empty { OnErr result (self.new ≡ []) }
-        ensures cause { HasCause (R.faults source.old) (R.faults source.new) result }
-        ensures end { StaysAtEnd (R.faults source.old) (R.faults source.new) }
-        ensures aside { R.aside source.new ≡ R.aside source.old }
+        ensures cause { OnErr result (Rose (R.faults source.old) (R.faults source.new)) }
+        ensures source { IsLater R.faults R.aside source.old source.new }
     {
         self.at = 0;
         self.end = 0;

@@ -1,20 +1,21 @@
 //! The tools: commands that read one source, and end.
 
-ghost use Rattle.std.specs.Prelude.{◌≡◌, ◌≤◌, ◌⊎◌, List, ℕ, Some, None, map, string_bytes};
-ghost use Rattle.nt_link.specs.Causes.{Rose, StaysAtEnd};
+ghost use Rattle.std.specs.Prelude.{◌≡◌, ◌≤◌, ◌⊎◌, List, ℕ, Some, None, IfOk, IsErrOf, map, string_bytes};
+ghost use Rattle.nt_link.specs.Causes.{Rose, StaysAtEnd, IsLater};
 ghost use Rattle.nt_cli.specs.Words.{tool_of};
-ghost use Rattle.nt_cli.specs.Reply.{Reply, IsGiven, IsFront};
-ghost use Rattle.nt_cli.specs.Tool.{Replies, Decides, Stops, Unread, Unwritten};
+ghost use Rattle.nt_cli.specs.Reply.{Reply, IsGiven, IsPrefix};
+ghost use Rattle.nt_cli.specs.Printing.{number_of, Follows};
+ghost use Rattle.nt_cli.specs.Tool.{Replies, Decides, Stops, Unread, Unwritten, Ends};
 
-use crate::check::check;
 use crate::desk::desk;
+use crate::log_tool::run_log_tool;
 use crate::output::tell;
-use crate::show::show;
-use crate::words::{LogTool, Tool, tool_of};
+use crate::status::{Status, ToolFault};
+use crate::words::{Tool, tool_of};
 use nt_link::{Sink, Source};
 use std::alloc::Global;
 
-/// Runs the tool that these words ask for, those behind the program's name, and answers its status:
+/// Runs the tool that these words ask for, those after the program's name, and answers its status:
 /// 0 where it is done, 1 where the log has a fault, a line of the desk is too long or the source has
 /// more bytes than a tool reads, 2 where no tool has these words, 3 for want of memory, and 4 where a
 /// read or a write failed.
@@ -33,14 +34,14 @@ pub fn run_tool<R: Source, S: Sink, O: Sink>(
     ensures exact { (bytes : List ℕ) (reply : Reply) → R.left source.old ≡ Some bytes
         → Replies (map string_bytes words.now) bytes reply
         → result ≤ 2 → IsGiven reply result (O.taken out.old) (O.taken out.new) }
-    // Nothing is printed but a front of it in any case.
-    ensures front { (bytes : List ℕ) (reply : Reply) → R.left source.old ≡ Some bytes
+    // Nothing is printed but a prefix of it in any case.
+    ensures prefix { (bytes : List ℕ) (reply : Reply) → R.left source.old ≡ Some bytes
         → Replies (map string_bytes words.now) bytes reply
-        → IsFront reply (O.taken out.old) (O.taken out.new) }
-    // For want of memory nothing is printed, or a front of the reply where a tool prints as it goes.
+        → IsPrefix reply (O.taken out.old) (O.taken out.new) }
+    // For want of memory nothing is printed, or a prefix of the reply where a tool prints as it goes.
     ensures memory { result ≡ 3 → Stops (map string_bytes words.now) (R.left source.old)
         (R.left source.new) (O.taken out.old) (O.taken out.new) }
-    // A read failed and nothing is printed, or a front of the reply where a tool answers as it reads,
+    // A read failed and nothing is printed, or a prefix of the reply where a tool answers as it reads,
     // or a write failed in the midst of the reply.
     ensures fault { result ≡ 4 →
         (Rose (R.faults source.old) (R.faults source.new)
@@ -63,12 +64,37 @@ pub fn run_tool<R: Source, S: Sink, O: Sink>(
     ensures out_end { StaysAtEnd (O.faults out.old) (O.faults out.new) }
     ensures out_aside { O.aside out.new ≡ O.aside out.old }
 {
-    let Some(tool) = tool_of(words) else {
-        return tell(out, 2, "usage\n");
-    };
-    match tool {
-        Tool::Log(LogTool::Check) => check(alloc, source, out),
-        Tool::Log(LogTool::Show) => show(alloc, source, out),
-        Tool::Desk => desk(alloc, source, out),
+    match run(alloc, words, source, out) {
+        Ok(status) => status as u8,
+        Err(ToolFault::Memory) => Status::Memory as u8,
+        Err(ToolFault::Read | ToolFault::Write) => Status::Failed as u8,
+    }
+}
+
+/// Runs the tool that these words ask for.
+fn run<R: Source, O: Sink>(
+    alloc: Global,
+    words: &[String],
+    source: &mut R,
+    out: &mut O,
+) -> Result<Status, ToolFault>
+    ensures ends { Ends (map string_bytes words.now) (R.left source.old) (R.left source.new)
+        (O.taken out.old) (O.taken out.new) result }
+    ensures exact { (bytes : List ℕ) (reply : Reply) → R.left source.old ≡ Some bytes
+        → Replies (map string_bytes words.now) bytes reply
+        → Follows reply (O.taken out.old) (O.taken out.new) result }
+    ensures low { IfOk result (λ status. number_of status ≤ 2) }
+    ensures usage { IfOk result (λ status. number_of status ≡ 2
+        → tool_of (map string_bytes words.now) ≡ None) }
+    ensures unread { tool_of (map string_bytes words.now) ≡ None → source.new ≡ source.old }
+    ensures read { IsErrOf result ToolFault.Read → Rose (R.faults source.old) (R.faults source.new) }
+    ensures write { IsErrOf result ToolFault.Write → Rose (O.faults out.old) (O.faults out.new) }
+    ensures source { IsLater R.faults R.aside source.old source.new }
+    ensures out { IsLater O.faults O.aside out.old out.new }
+{
+    match tool_of(words) {
+        None => tell(out, Status::Usage, "usage\n"),
+        Some((Tool::Log(tool), _)) => run_log_tool(alloc, tool, source, out),
+        Some((Tool::Desk, _)) => desk(alloc, source, out),
     }
 }

@@ -1,6 +1,6 @@
-//! The words behind the program's name.
+//! The words after the program's name.
 
-ghost use Rattle.std.specs.Prelude.{◌≡◌, IfOk, IsSome, IsErrOf, None, map, string_bytes};
+ghost use Rattle.std.specs.Prelude.{◌≡◌, IfOk, IfSome, IsSome, IsErrOf, None, map, option_map, string_bytes};
 ghost use Rattle.std.specs.Option.{option_copied};
 ghost use Rattle.nt_cli.specs.Words.{log_tool, tool_of, file_of};
 ghost use Rattle.nt_cli.specs.declared.words.UsageFault.TheVariants.{Memory};
@@ -10,7 +10,7 @@ use std::alloc::{AllocError, Global};
 use thiserror::Error;
 
 /// A tool: a command that reads one source, and ends.
-#[derive(Clone, Copy, Debug, PartialEq, Eq)]
+#[derive(Clone, Copy)]
 pub enum Tool {
     /// Reads the log in a file.
     Log(LogTool),
@@ -19,7 +19,7 @@ pub enum Tool {
 }
 
 /// A tool that reads a log.
-#[derive(Clone, Copy, Debug, PartialEq, Eq)]
+#[derive(Clone, Copy)]
 pub enum LogTool {
     /// Tells whether it is whole.
     Check,
@@ -47,7 +47,7 @@ impl From<AllocError> for UsageFault {
 }
 
 /// The file that a tool reads and the file that it writes, where it has one.
-#[derive(Debug, Drop)]
+#[derive(Drop)]
 pub struct ToolFiles {
     pub source: Option<Text>,
     pub sink: Option<Text>,
@@ -64,23 +64,27 @@ pub fn tool_files(alloc: Global, words: &[String]) -> Result<ToolFiles, UsageFau
         × (files.sink ≡ None)) }
     ensures words { IsErrOf result UsageFault.Words → tool_of (map string_bytes words.now) ≡ None }
 {
-    if tool_of(words).is_none() {
+    let Some((_, file)) = tool_of(words) else {
         return Err(UsageFault::Words);
-    }
-    let source = match file_of(words) {
+    };
+    let source = match file {
         Some(file) => Some(Text::of(alloc, file)?),
         None => None,
     };
     Ok(ToolFiles { source, sink: None })
 }
 
-/// The tool that these words ask for.
-pub fn tool_of(words: &[String]) -> Option<Tool>
-    ensures { result ≡ tool_of (map string_bytes words.now) }
+/// The tool that these words ask for, and the file that they name.
+pub fn tool_of(words: &[String]) -> Option<(Tool, Option<&str>)>
+    ensures tool { option_map (λ asked. asked.0) result ≡ tool_of (map string_bytes words.now) }
+    ensures file { IfSome result (λ asked. option_copied asked.1 ≡ file_of (map string_bytes words.now)) }
 {
     match words {
-        [command] if command.as_str() == "desk" => Some(Tool::Desk),
-        [command, _] => log_tool(command.as_str()).map(Tool::Log),
+        [command] if command.as_str() == "desk" => Some((Tool::Desk, None)),
+        [command, file] => {
+            let tool = log_tool(command.as_str())?;
+            Some((Tool::Log(tool), Some(file.as_str())))
+        }
         _ => None,
     }
 }
@@ -92,16 +96,6 @@ fn log_tool(command: &str) -> Option<LogTool>
     match command {
         "check" => Some(LogTool::Check),
         "show" => Some(LogTool::Show),
-        _ => None,
-    }
-}
-
-/// The file that they name.
-fn file_of(words: &[String]) -> Option<&str>
-    ensures { option_copied result ≡ file_of (map string_bytes words.now) }
-{
-    match words {
-        [_, file] => Some(file.as_str()),
         _ => None,
     }
 }

@@ -2,3 +2,4 @@ pub mod Members
 pub mod Arrays
 pub mod Depths
 pub mod Subscriptions
+pub mod Sendable

@@ -18,7 +18,7 @@ tied a b tie = (bytes_eq-Decides a b).0 (sym (is_eq-slice_cmp a b) ∙ ap is_eq 
 apart : (a b : List ℕ) → bytes_eq a b ≡ false → a ≡ b → ⊥
 apart a b differ same = true≢false (sym ((bytes_eq-Decides a b).1 same) ∙ differ)
 
--- one entry, where what is left of those behind it has the other keys
+-- one entry, where what is left of those after it has the other keys
 by_order : (o : Ordering) (name other : List ℕ) (e : Entry) (es rest : List Entry)
     → slice_cmp nat_cmp name (string_bytes e.0) ≡ o → bytes_eq other name ≡ false
     → get_member other (members_view rest) ≡ get_member other (members_view es)

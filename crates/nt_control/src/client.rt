@@ -1,13 +1,13 @@
 //! What a client says, as it is read.
 
-ghost use Rattle.std.specs.Prelude.{◌≡◌, string_bytes, IfOk};
+ghost use Rattle.std.specs.Prelude.{◌≡◌, IfOk};
 ghost use Rattle.serde_json.specs.View.{view, members_view};
 ghost use Rattle.nt_control.specs.Frame.{said_in, ignored_in};
-ghost use Rattle.nt_control.specs.Client.{client_message, client_call, publish_of, set_props_of, subscribe_of};
+ghost use Rattle.nt_control.specs.Client.{client_message, publish_of, set_props_of, subscribe_of};
 
 use crate::frame::{Call, elements, take_call};
 use crate::message::ClientMsg;
-use crate::params::{integer, take_properties, take_topic_name, take_type_name, take_update};
+use crate::params::{integer, take_limited, take_properties, take_update};
 use crate::subscription::{take_names, take_options};
 use nt_subs::Sub;
 use serde_json::{Map, Value};
@@ -15,7 +15,7 @@ use std::alloc::{AllocError, Global};
 
 /// What a text frame of a client says: its messages in order, and how many elements are no message
 /// (at most the greatest number of the type).
-#[derive(Debug, Drop)]
+#[derive(Drop)]
 pub struct ClientRead {
     pub msgs: Vec<ClientMsg>,
     pub ignored: u32,
@@ -46,29 +46,21 @@ pub fn read_client(alloc: Global, text: &[u8]) -> Result<ClientRead, AllocError>
 fn message(alloc: Global, element: Value) -> Result<Option<ClientMsg>, AllocError>
     ensures { IfOk result (λ msg. msg ≡ client_message (view element)) }
 {
-    match take_call(element) {
-        Some(call) => called(alloc, call),
-        None => Ok(None),
-    }
-}
-
-/// The message of a method with its params.
-fn called(alloc: Global, call: Call) -> Result<Option<ClientMsg>, AllocError>
-    ensures { IfOk result (λ msg. msg
-        ≡ client_call (string_bytes call.method) (members_view call.params.entries)) }
-{
-    let method = call.method.as_str();
+    let Some(Call { method, params }) = take_call(element) else {
+        return Ok(None);
+    };
+    let method = method.as_str();
     if method == "publish" {
-        publish(alloc, call.params)
+        publish(alloc, params)
     } else if method == "unpublish" {
-        let uid = integer(&call.params, "pubuid");
+        let uid = integer(&params, "pubuid");
         Ok(uid.map(|uid| ClientMsg::Unpublish { uid }))
     } else if method == "setproperties" {
-        set_props(alloc, call.params)
+        set_props(alloc, params)
     } else if method == "subscribe" {
-        subscribe(alloc, call.params)
+        subscribe(alloc, params)
     } else if method == "unsubscribe" {
-        let uid = integer(&call.params, "subuid");
+        let uid = integer(&params, "subuid");
         Ok(uid.map(|uid| ClientMsg::Unsubscribe { uid }))
     } else {
         Ok(None)
@@ -82,10 +74,10 @@ fn publish(alloc: Global, mut params: Map<String, Value>) -> Result<Option<Clien
     let Some(uid) = integer(&params, "pubuid") else {
         return Ok(None);
     };
-    let Some(name) = take_topic_name(&mut params, "name") else {
+    let Some(name) = take_limited(&mut params, "name") else {
         return Ok(None);
     };
-    let Some(typ) = take_type_name(&mut params, "type") else {
+    let Some(typ) = take_limited(&mut params, "type") else {
         return Ok(None);
     };
     let Some(props) = take_properties(alloc, &mut params)? else {
@@ -103,7 +95,7 @@ fn publish(alloc: Global, mut params: Map<String, Value>) -> Result<Option<Clien
 fn set_props(alloc: Global, mut params: Map<String, Value>) -> Result<Option<ClientMsg>, AllocError>
     ensures { IfOk result (λ msg. msg ≡ set_props_of (members_view params.entries)) }
 {
-    let Some(name) = take_topic_name(&mut params, "name") else {
+    let Some(name) = take_limited(&mut params, "name") else {
         return Ok(None);
     };
     let Some(update) = take_update(alloc, &mut params)? else {

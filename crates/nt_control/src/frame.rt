@@ -15,29 +15,19 @@ pub struct Call {
     pub params: Map<String, Value>,
 }
 
-/// The tree of a text, where it is one. It fails for want of memory alone.
-fn tree(alloc: Global, text: &[u8]) -> Result<Option<Value>, AllocError>
-    ensures { IfOk result (λ tree. option_map view tree ≡ tree_in text.now) }
+/// The elements of a frame, where its text is an array. It fails for want of memory alone.
+pub fn elements(alloc: Global, text: &[u8]) -> Result<Option<Vec<Value>>, AllocError>
+    ensures { IfOk result (λ elements.
+        option_map (λ list. map view list.items) elements ≡ elements_of (tree_in text.now)) }
 {
     match Value::from_slice(alloc, text) {
-        Ok(tree) => Ok(Some(tree)),
+        Ok(tree) => Ok(into_items(tree)),
         Err(error) => if error.is_memory() {
             Err(AllocError)
         } else {
             Ok(None)
         },
     }
-}
-
-/// The elements of a frame, where its text is an array. It fails for want of memory alone.
-pub fn elements(alloc: Global, text: &[u8]) -> Result<Option<Vec<Value>>, AllocError>
-    ensures { IfOk result (λ elements.
-        option_map (λ list. map view list.items) elements ≡ elements_of (tree_in text.now)) }
-{
-    let Some(tree) = tree(alloc, text)? else {
-        return Ok(None);
-    };
-    Ok(into_items(tree))
 }
 
 /// The method and the params of an element, where it has both.

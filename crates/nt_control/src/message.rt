@@ -7,7 +7,7 @@ use nt_topics::{Name, Props, TopicName, TypeName, Update};
 use std::alloc::{AllocError, Global};
 
 /// What a client says ("Client to Server Messages"). Its uids are of its own choice.
-#[derive(Debug, Drop)]
+#[derive(Drop)]
 pub enum ClientMsg {
     /// The client publishes a topic, under this uid.
     Publish {
@@ -68,7 +68,7 @@ impl ClientMsg {
 }
 
 /// What a server says ("Server to Client Messages").
-#[derive(Debug, Drop)]
+#[derive(Drop)]
 pub enum ServerMsg {
     /// There is a topic of this name, known by this id. Where the client published it, its uid
     /// stands there too.

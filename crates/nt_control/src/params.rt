@@ -3,11 +3,11 @@
 ghost use Rattle.std.specs.Prelude.{◌≡◌, codes, option_map, option_and_then, string_bytes, IfOk};
 ghost use Rattle.serde_json.specs.Find.{get_member, as_str, as_array, as_object};
 ghost use Rattle.serde_json.specs.View.{view, items_view, members_view};
-ghost use Rattle.nt_topics.specs.Names.{topic_name, type_name};
+ghost use Rattle.nt_topics.specs.Names.{limited};
 ghost use Rattle.nt_topics.specs.Properties.{update_of};
 ghost use Rattle.nt_control.specs.Params.{KeepsOthers, text_at, integer_at, integer_of, integer_if, flag_if, is_number_if, properties_if};
 
-use nt_topics::{Name, Props, TopicName, TypeName, Update};
+use nt_topics::{Limited, Name, Props, Update};
 use nt_values::Text;
 use serde_json::{Map, Value};
 use std::alloc::{AllocError, Global};
@@ -73,26 +73,18 @@ pub fn take_name(params: &mut Map<String, Value>, key: &str) -> Option<Name>
     Some(Name::of_text(Text::of_string(text)))
 }
 
-/// Takes the name of a topic out of the params, where it is within its limits.
-pub fn take_topic_name(params: &mut Map<String, Value>, key: &str) -> Option<TopicName>
+/// Takes a topic's name or a type string out of the params, where it is within its limits.
+pub fn take_limited<K, const MOST: usize>(
+    params: &mut Map<String, Value>,
+    key: &str,
+) -> Option<Limited<K, MOST>>
     ensures name { result
-        ≡ option_and_then topic_name (text_at key.now (members_view params.old.entries)) }
+        ≡ option_and_then (limited MOST) (text_at key.now (members_view params.old.entries)) }
     ensures others { KeepsOthers key.now
         (members_view params.old.entries) (members_view params.new.entries) }
 {
     let text = take_text(params, key)?;
-    TopicName::of_text(Text::of_string(text))
-}
-
-/// Takes a type string out of the params, where it is within its limits.
-pub fn take_type_name(params: &mut Map<String, Value>, key: &str) -> Option<TypeName>
-    ensures name { result
-        ≡ option_and_then type_name (text_at key.now (members_view params.old.entries)) }
-    ensures others { KeepsOthers key.now
-        (members_view params.old.entries) (members_view params.new.entries) }
-{
-    let text = take_text(params, key)?;
-    TypeName::of_text(Text::of_string(text))
+    Limited::of_text(Text::of_string(text))
 }
 
 /// Takes the properties out of the params: none, where they are absent.

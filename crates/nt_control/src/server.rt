@@ -1,22 +1,21 @@
 //! What a server says, as it is read.
 
-ghost use Rattle.std.specs.Prelude.{◌≡◌, string_bytes, IfOk};
+ghost use Rattle.std.specs.Prelude.{◌≡◌, IfOk};
 ghost use Rattle.serde_json.specs.View.{view, members_view};
 ghost use Rattle.nt_control.specs.Frame.{told_in, untold_in};
-ghost use Rattle.nt_control.specs.Server.{server_message, server_call, announce_of, unannounce_of, properties_of};
+ghost use Rattle.nt_control.specs.Server.{server_message, announce_of, unannounce_of, properties_of};
 
 use crate::frame::{Call, elements, take_call};
 use crate::message::ServerMsg;
 use crate::params::{
-    flag_or_false, integer, integer_or_none, take_name, take_properties, take_type_name,
-    take_update,
+    flag_or_false, integer, integer_or_none, take_limited, take_name, take_properties, take_update,
 };
 use serde_json::{Map, Value};
 use std::alloc::{AllocError, Global};
 
 /// What a text frame of a server says: its messages in order, and how many elements are no message
 /// (at most the greatest number of the type).
-#[derive(Debug, Drop)]
+#[derive(Drop)]
 pub struct ServerRead {
     pub msgs: Vec<ServerMsg>,
     pub ignored: u32,
@@ -47,24 +46,16 @@ pub fn read_server(alloc: Global, text: &[u8]) -> Result<ServerRead, AllocError>
 fn message(alloc: Global, element: Value) -> Result<Option<ServerMsg>, AllocError>
     ensures { IfOk result (λ msg. msg ≡ server_message (view element)) }
 {
-    match take_call(element) {
-        Some(call) => called(alloc, call),
-        None => Ok(None),
-    }
-}
-
-/// The message of a method with its params.
-fn called(alloc: Global, call: Call) -> Result<Option<ServerMsg>, AllocError>
-    ensures { IfOk result (λ msg. msg
-        ≡ server_call (string_bytes call.method) (members_view call.params.entries)) }
-{
-    let method = call.method.as_str();
+    let Some(Call { method, params }) = take_call(element) else {
+        return Ok(None);
+    };
+    let method = method.as_str();
     if method == "announce" {
-        announce(alloc, call.params)
+        announce(alloc, params)
     } else if method == "unannounce" {
-        Ok(unannounce(call.params))
+        Ok(unannounce(params))
     } else if method == "properties" {
-        properties(alloc, call.params)
+        properties(alloc, params)
     } else {
         Ok(None)
     }
@@ -83,7 +74,7 @@ fn announce(alloc: Global, mut params: Map<String, Value>) -> Result<Option<Serv
     let Some(name) = take_name(&mut params, "name") else {
         return Ok(None);
     };
-    let Some(typ) = take_type_name(&mut params, "type") else {
+    let Some(typ) = take_limited(&mut params, "type") else {
         return Ok(None);
     };
     let Some(props) = take_properties(alloc, &mut params)? else {

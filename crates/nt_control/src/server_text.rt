@@ -1,16 +1,13 @@
 //! What a server says, as it is written.
 
-ghost use Rattle.std.specs.Prelude.{◌≡◌, ◌≤◌, false, Some, All, IfOk};
+ghost use Rattle.std.specs.Prelude.{◌≡◌, ◌≤◌, Some, All, IfOk};
 ghost use Rattle.serde_json.specs.Data.{depth};
-ghost use Rattle.serde_json.specs.View.{view};
-ghost use Rattle.serde_json.specs.Written.{has_float};
 ghost use Rattle.nt_control.specs.Frame.{server_text, told_in, untold_in};
-ghost use Rattle.nt_control.specs.Elements.{Says, tree_in, elements_of, said, passed_over};
-ghost use Rattle.nt_control.specs.Server.{server_tree, server_element, server_message, server_object};
+ghost use Rattle.nt_control.specs.Elements.{tree_in};
+ghost use Rattle.nt_control.specs.Server.{server_tree, server_object};
 
 use crate::message::ServerMsg;
-use crate::write::{element, frame_text, integer_value, put_true};
-use nt_topics::{Name, Props, TypeName, Update};
+use crate::write::{Message, element_of, frame_text, integer_value, put_text, put_true, tree};
 use nt_values::Text;
 use serde_json::{Map, Value};
 use std::alloc::{AllocError, Global};
@@ -33,101 +30,43 @@ pub fn write_server(alloc: Global, msgs: &[ServerMsg]) -> Result<Text, AllocErro
     Ok(text)
 }
 
-/// The tree of a frame.
-fn tree(alloc: Global, msgs: &[ServerMsg]) -> Result<Value, AllocError>
-    ensures tree { IfOk result (λ tree. view tree ≡ server_tree msgs.now) }
-    ensures whole { IfOk result (λ tree. has_float (view tree) ≡ false) }
-    ensures back { IfOk result (λ tree.
-        said server_message (elements_of (Some (view tree))) ≡ msgs.now) }
-    ensures none_passed { IfOk result (λ tree.
-        passed_over server_message (elements_of (Some (view tree))) ≡ 0) }
-{
-    let mut elements = Vec::new(alloc);
-    for msg in msgs {
-        elements.push(message(alloc, msg)?)?;
+impl Message for ServerMsg {
+    ghost use Rattle.nt_control.specs.Server.{server_element, server_message};
+
+    ghost written = { server_element };
+
+    ghost read = { server_message };
+
+    fn element(&self, alloc: Global) -> Result<Value, AllocError> {
+        let mut params = Map::new(alloc);
+        match self {
+            ServerMsg::Announce {
+                name,
+                id,
+                typ,
+                pubuid,
+                props,
+            } => {
+                put_text(alloc, &mut params, "type", typ.as_str())?;
+                if let Some(uid) = *pubuid {
+                    serde_json::put(&mut params, alloc, "pubuid", integer_value(uid))?;
+                }
+                serde_json::put(&mut params, alloc, "properties", props.tree().clone()?)?;
+                put_text(alloc, &mut params, "name", name.as_str())?;
+                serde_json::put(&mut params, alloc, "id", integer_value(*id))?;
+                element_of(alloc, "announce", params)
+            }
+            ServerMsg::Unannounce { name, id } => {
+                put_text(alloc, &mut params, "name", name.as_str())?;
+                serde_json::put(&mut params, alloc, "id", integer_value(*id))?;
+                element_of(alloc, "unannounce", params)
+            }
+            ServerMsg::Properties { name, ack, update } => {
+                serde_json::put(&mut params, alloc, "update", update.tree().clone()?)?;
+                put_text(alloc, &mut params, "name", name.as_str())?;
+                put_true(alloc, &mut params, "ack", *ack)?;
+                element_of(alloc, "properties", params)
+            }
+        }
     }
-    Ok(Value::Array(elements))
-}
-
-/// The element that says a message.
-fn message(alloc: Global, msg: &ServerMsg) -> Result<Value, AllocError>
-    ensures { IfOk result (λ e. Says server_element server_message (view e) msg.now) }
-{
-    match msg {
-        ServerMsg::Announce {
-            name,
-            id,
-            typ,
-            pubuid,
-            props,
-        } => announce(alloc, name, *id, typ, *pubuid, props),
-        ServerMsg::Unannounce { name, id } => unannounce(alloc, name, *id),
-        ServerMsg::Properties { name, ack, update } => properties(alloc, name, *ack, update),
-    }
-}
-
-/// The element that says an announce.
-fn announce(
-    alloc: Global,
-    name: &Name,
-    id: i64,
-    typ: &TypeName,
-    pubuid: Option<i64>,
-    props: &Props,
-) -> Result<Value, AllocError>
-    ensures { IfOk result (λ e. Says server_element server_message (view e)
-        (ServerMsg.Announce name.now id typ.now pubuid props.now)) }
-{
-    let mut params = Map::new(alloc);
-    serde_json::put(
-        &mut params,
-        alloc,
-        "type",
-        Value::try_from_str(alloc, typ.as_str())?,
-    )?;
-    if let Some(uid) = pubuid {
-        serde_json::put(&mut params, alloc, "pubuid", integer_value(uid))?;
-    }
-    serde_json::put(&mut params, alloc, "properties", props.tree().clone()?)?;
-    serde_json::put(
-        &mut params,
-        alloc,
-        "name",
-        Value::try_from_str(alloc, name.as_str())?,
-    )?;
-    serde_json::put(&mut params, alloc, "id", integer_value(id))?;
-    element(alloc, "announce", params)
-}
-
-/// The element that says an unannounce.
-fn unannounce(alloc: Global, name: &Name, id: i64) -> Result<Value, AllocError>
-    ensures { IfOk result (λ e. Says server_element server_message (view e)
-        (ServerMsg.Unannounce name.now id)) }
-{
-    let mut params = Map::new(alloc);
-    serde_json::put(
-        &mut params,
-        alloc,
-        "name",
-        Value::try_from_str(alloc, name.as_str())?,
-    )?;
-    serde_json::put(&mut params, alloc, "id", integer_value(id))?;
-    element(alloc, "unannounce", params)
-}
-
-/// The element that says a change of properties.
-fn properties(alloc: Global, name: &Name, ack: bool, update: &Update) -> Result<Value, AllocError>
-    ensures { IfOk result (λ e. Says server_element server_message (view e)
-        (ServerMsg.Properties name.now ack update.now)) }
-{
-    let mut params = Map::new(alloc);
-    serde_json::put(&mut params, alloc, "update", update.tree().clone()?)?;
-    serde_json::put(
-        &mut params,
-        alloc,
-        "name",
-        Value::try_from_str(alloc, name.as_str())?,
-    )?;
-    put_true(alloc, &mut params, "ack", ack)?;
-    element(alloc, "properties", params)
 }

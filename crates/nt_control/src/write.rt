@@ -1,18 +1,44 @@
 //! The parts of the elements that are written.
 
-ghost use Rattle.std.specs.Prelude.{◌≡◌, ◌≤◌, true, false, Some, IfOk, OnOk, option_and_then, if◌then◌else◌};
-ghost use Rattle.serde_json.specs.Data.{boolean, object, put, depth};
+ghost use Rattle.std.specs.Prelude.{◌≡◌, ◌≤◌, true, false, Option, Some, map, IfOk, OnOk, option_and_then, if◌then◌else◌};
+ghost use Rattle.serde_json.specs.Data.{Data, array, boolean, string, object, put, depth};
 ghost use Rattle.serde_json.specs.Find.{as_array};
 ghost use Rattle.serde_json.specs.Read.{max_depth};
-ghost use Rattle.serde_json.specs.View.{view, members_view};
+ghost use Rattle.serde_json.specs.View.{view, items_of, members_view};
 ghost use Rattle.serde_json.specs.Written.{compact_text, has_float};
-ghost use Rattle.nt_control.specs.Elements.{tree_in, element};
+ghost use Rattle.nt_control.specs.Elements.{Says, tree_in, elements_of, said, passed_over, element};
 ghost use Rattle.nt_control.specs.Params.{integer_of, whole, texts_of, text_items, options_of, option_members};
 
 use nt_subs::{Names, Options};
 use nt_values::Text;
 use serde_json::{Map, Value};
 use std::alloc::{AllocError, Global};
+
+/// A message, which an element of a frame says.
+pub trait Message: Sized {
+    ghost written: { Self → Data };
+
+    ghost read: { Data → Option Self };
+
+    /// The element that says the message. It fails for want of memory alone.
+    fn element(&self, alloc: Global) -> Result<Value, AllocError>
+        ensures { IfOk result (λ e. Says written read (view e) self.now) };
+}
+
+/// The tree of the frame that says these messages. It fails for want of memory alone.
+pub fn tree<M: Message>(alloc: Global, msgs: &[M]) -> Result<Value, AllocError>
+    ensures tree { IfOk result (λ tree. view tree ≡ array (items_of (map M.written msgs.now))) }
+    ensures whole { IfOk result (λ tree. has_float (view tree) ≡ false) }
+    ensures back { IfOk result (λ tree. said M.read (elements_of (Some (view tree))) ≡ msgs.now) }
+    ensures none_passed { IfOk result
+        (λ tree. passed_over M.read (elements_of (Some (view tree))) ≡ 0) }
+{
+    let mut elements = Vec::new(alloc);
+    for msg in msgs {
+        elements.push(msg.element(alloc)?)?;
+    }
+    Ok(Value::Array(elements))
+}
 
 /// The text of a frame, without blanks. It fails for want of memory alone.
 pub fn frame_text(alloc: Global, tree: &Value) -> Result<Text, AllocError>
@@ -25,16 +51,15 @@ pub fn frame_text(alloc: Global, tree: &Value) -> Result<Text, AllocError>
 }
 
 /// The element of a method with these params. It fails for want of memory alone.
-pub fn element(alloc: Global, method: &str, params: Map<String, Value>) -> Result<Value, AllocError>
+pub fn element_of(
+    alloc: Global,
+    method: &str,
+    params: Map<String, Value>,
+) -> Result<Value, AllocError>
     ensures { IfOk result (λ e. view e ≡ element method.now (members_view params.entries)) }
 {
     let mut members = Map::new(alloc);
-    serde_json::put(
-        &mut members,
-        alloc,
-        "method",
-        Value::try_from_str(alloc, method)?,
-    )?;
+    put_text(alloc, &mut members, "method", method)?;
     serde_json::put(&mut members, alloc, "params", Value::Object(params))?;
     Ok(Value::Object(members))
 }
@@ -72,6 +97,20 @@ pub fn options_value(alloc: Global, options: Options) -> Result<Value, AllocErro
     put_true(alloc, &mut members, "prefix", options.prefix)?;
     put_true(alloc, &mut members, "all", options.all)?;
     Ok(Value::Object(members))
+}
+
+/// Puts a text at a key. It fails for want of memory alone.
+pub fn put_text(
+    alloc: Global,
+    members: &mut Map<String, Value>,
+    key: &str,
+    text: &str,
+) -> Result<(), AllocError>
+    ensures { OnOk result (members_view members.new.entries
+        ≡ put key.now (string text.now) (members_view members.old.entries)) }
+{
+    serde_json::put(members, alloc, key, Value::try_from_str(alloc, text)?)?;
+    Ok(())
 }
 
 /// Puts a flag at a key where it is true.

@@ -21,7 +21,8 @@ some_atom (suc (suc (suc (suc (suc zero))))) l = (binary [], refl)
 some_atom (suc (suc (suc (suc (suc (suc n)))))) l = absurd (omega arith)
 
 -- atoms that may stand for a value of this type
-some_wire : (b : Bool) (n m : ℕ) → nat_lt n 6 ≡ b → (wire : List AtomValue) × MatchBool b (IsSingle n wire) (IsArray m wire)
+some_wire : (b : Bool) (n m : ℕ) → nat_lt n 6 ≡ b
+    → (wire : List AtomValue) × MatchBool b (IsSingle n wire) (IsArray m wire)
 some_wire true n m e = let a = some_atom n (ltb-true n 6 e) in (a.0 ∷ [], (a.0, refl, a.1))
 some_wire false n m e = (array_head 0 ∷ [], ([], refl, refl))
 
@@ -73,7 +74,8 @@ no_time id a isnt t =
     let whole = t.1.whole in let same : a ≡ int (pos t.1.time) = cc in
     let is : is_time a ≡ true = ap is_time same ∙ t.1.lawful.time_is in cc
 
-pub no_type : (id : ℤ) (time : ℕ) (a : AtomValue) → is_type a ≡ false → ¬ (Takes (array_head 4 ∷ int id ∷ int (pos time) ∷ []) a)
+pub no_type : (id : ℤ) (time : ℕ) (a : AtomValue) → is_type a ≡ false
+    → ¬ (Takes (array_head 4 ∷ int id ∷ int (pos time) ∷ []) a)
 no_type id time a isnt t =
     let whole = t.1.whole in let same : a ≡ int (pos t.1.number) = cc in
     let is : is_type a ≡ true = ap is_type same ∙ t.1.lawful.number_is in cc
@@ -105,19 +107,27 @@ no_wire id time number wire a isnt t =
     let whole = t.1.whole in
     let number_is : t.1.number ≡ number = cc in
     let wire_is : t.1.wire ≡ wire ++ a ∷ t.0 = cc in
-    isnt (t.0, subst (λ n. IsWire n (wire ++ a ∷ t.0)) number_is (subst (λ w. IsWire t.1.number w) wire_is t.1.lawful.wire_is))
+    isnt (
+      t.0,
+      subst (λ n. IsWire n (wire ++ a ∷ t.0)) number_is
+          (subst (λ w. IsWire t.1.number w) wire_is t.1.lawful.wire_is),
+    )
 
 -- by whether the type is that of an array
-wire_is-single : (number : ℕ) (wire : List AtomValue) → is_single number ≡ true → IsWire number wire → IsSingle number wire
+wire_is-single : (number : ℕ) (wire : List AtomValue) → is_single number ≡ true → IsWire number wire
+    → IsSingle number wire
 wire_is-single number wire e w = subst (λ b. MatchBool b (IsSingle number wire) (IsArray (number - 16) wire)) e w
 
-pub single-wire_is : (number : ℕ) (wire : List AtomValue) → is_single number ≡ true → IsSingle number wire → IsWire number wire
+pub single-wire_is : (number : ℕ) (wire : List AtomValue) → is_single number ≡ true → IsSingle number wire
+    → IsWire number wire
 single-wire_is number wire e w = subst (λ b. MatchBool b (IsSingle number wire) (IsArray (number - 16) wire)) (sym e) w
 
-wire_is-array : (number : ℕ) (wire : List AtomValue) → is_single number ≡ false → IsWire number wire → IsArray (number - 16) wire
+wire_is-array : (number : ℕ) (wire : List AtomValue) → is_single number ≡ false → IsWire number wire
+    → IsArray (number - 16) wire
 wire_is-array number wire e w = subst (λ b. MatchBool b (IsSingle number wire) (IsArray (number - 16) wire)) e w
 
-pub array-wire_is : (number : ℕ) (wire : List AtomValue) → is_single number ≡ false → IsArray (number - 16) wire → IsWire number wire
+pub array-wire_is : (number : ℕ) (wire : List AtomValue) → is_single number ≡ false → IsArray (number - 16) wire
+    → IsWire number wire
 array-wire_is number wire e w = subst (λ b. MatchBool b (IsSingle number wire) (IsArray (number - 16) wire)) (sym e) w
 
 pub takes_single : (number : ℕ) → is_single number ≡ true → (good : AtomValue) × TakesWire number [] good
@@ -125,7 +135,8 @@ takes_single number e =
     let a = some_atom number (ltb-true number 6 e) in
     (a.0, ([], single-wire_is number (a.0 ∷ []) e (a.0, refl, a.1)))
 
-pub no_single : (number : ℕ) (a : AtomValue) → is_single number ≡ true → may_stand number a ≡ false → ¬ (TakesWire number [] a)
+pub no_single : (number : ℕ) (a : AtomValue) → is_single number ≡ true → may_stand number a ≡ false
+    → ¬ (TakesWire number [] a)
 no_single number a e isnt t =
     let w = wire_is-single number (a ∷ t.0) e t.1 in
     let whole = w.1 in let same : a ≡ w.0 = cc in
@@ -134,21 +145,24 @@ no_single number a e isnt t =
 pub takes_array_head : (number : ℕ) → is_single number ≡ false → TakesWire number [] (array_head 0)
 takes_array_head number e = ([], array-wire_is number (array_head 0 ∷ []) e ([], refl, refl))
 
-pub no_array_head : (number : ℕ) (a : AtomValue) → is_single number ≡ false → is_array_head a ≡ false → ¬ (TakesWire number [] a)
+pub no_array_head : (number : ℕ) (a : AtomValue) → is_single number ≡ false → is_array_head a ≡ false
+    → ¬ (TakesWire number [] a)
 no_array_head number a e isnt t =
     let w = wire_is-array number (a ∷ t.0) e t.1 in
     let whole = w.1 in let same : a ≡ array_head (length w.0) = cc in
     let is : is_array_head a ≡ true = ap is_array_head same in cc
 
 -- more elements of an array
-all_more : (p : AtomValue → Bool) (es fs : List AtomValue) → list_all p es ≡ true → list_all p fs ≡ true → list_all p (es ++ fs) ≡ true
+all_more : (p : AtomValue → Bool) (es fs : List AtomValue) → list_all p es ≡ true → list_all p fs ≡ true
+    → list_all p (es ++ fs) ≡ true
 all_more p es fs d e = rw list_all-append (rw d e)
 
 all_copies : (p : AtomValue → Bool) (n : ℕ) (a : AtomValue) → p a ≡ true → list_all p (replicate n a) ≡ true
 all_copies p zero a e = refl
 all_copies p (suc n) a e = rw e (all_copies p n a e)
 
-all_rest : (p : AtomValue → Bool) (es : List AtomValue) (a : AtomValue) (fs : List AtomValue) → list_all p (es ++ a ∷ fs) ≡ true → p a ≡ true
+all_rest : (p : AtomValue → Bool) (es : List AtomValue) (a : AtomValue) (fs : List AtomValue)
+    → list_all p (es ++ a ∷ fs) ≡ true → p a ≡ true
 all_rest p [] a fs e = both (p a) (list_all p fs) e
   where
     both : (b c : Bool) → (b && c) ≡ true → b ≡ true
@@ -167,9 +181,11 @@ takes_element number count es e l below all =
     let a = some_atom (number - 16) l in
     let more : List AtomValue = replicate (count - length es - 1) a.0 in
     let elements : List AtomValue = es ++ a.0 ∷ more in
-    let count_is : length elements ≡ count = omega (arith, length-append es (a.0 ∷ more), length-replicate (count - length es - 1) a.0) in
+    let count_is : length elements ≡ count = omega
+    (arith, length-append es (a.0 ∷ more), length-replicate (count - length es - 1) a.0) in
     let each : list_all (may_stand (number - 16)) elements ≡ true =
-    all_more (may_stand (number - 16)) es (a.0 ∷ more) all (rw a.1 (all_copies (may_stand (number - 16)) (count - length es - 1) a.0 a.1)) in (
+    all_more (may_stand (number - 16)) es (a.0 ∷ more) all
+    (rw a.1 (all_copies (may_stand (number - 16)) (count - length es - 1) a.0 a.1)) in (
       a.0,
       (
         more,
@@ -184,4 +200,5 @@ no_element number count es a e isnt t =
     let w = wire_is-array number (array_head count ∷ (es ++ a ∷ t.0)) e t.1 in
     let whole = w.1 in let elements : w.0 ≡ es ++ a ∷ t.0 = cc in
     let is : may_stand (number - 16) a ≡ true =
-    all_rest (may_stand (number - 16)) es a t.0 (subst (λ z. list_all (may_stand (number - 16)) z ≡ true) elements w.2) in cc
+    all_rest (may_stand (number - 16)) es a t.0 (subst
+    (λ z. list_all (may_stand (number - 16)) z ≡ true) elements w.2) in cc

@@ -10,3 +10,6 @@ pub mod Runs
 pub mod Ranges
 pub mod Matches
 pub mod Written
+pub mod Conversions
+pub mod Meanings
+pub mod Sendable

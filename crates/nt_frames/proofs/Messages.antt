@@ -1,4 +1,4 @@
--- What reading a message means: its atoms are spelled at the front of the bytes, or it is at fault.
+-- What reading a message means: its atoms are spelled at the start of the bytes, or it is at fault.
 use Rattle.std.proofs.Common.{◌≡◌, ◌⊎◌, inl, inr, ℕ, ◌-◌, ◌^◌, ◌<◌, ℤ, pos, negsuc, Bool, true, false, nat_lt, nat_le, ◌&&◌, ◌||◌, List, [], ◌∷◌, ◌++◌, length, Ok, Err, refl, ap, sym, ◌∙◌, subst, if◌then◌else◌, arith}
 use Rattle.std.proofs.lemmas.Bool.{ltb-true, eqb-true}
 use Rattle.nt_msgpack.specs.Atoms.{AtomValue, int, boolean, float32, float64, text, binary, array_head, map_head}
@@ -6,7 +6,7 @@ use Rattle.nt_frames.specs.declared.message.FrameKind.{FrameKind}
 use Rattle.nt_frames.specs.declared.message.FrameKind.TheVariants as kinds
 use Rattle.nt_frames.specs.Frames.{is_i64, is_single, is_known, may_stand, IsWire, IsWhole, IsFault, atoms_of}
 use Rattle.nt_frames.specs.Reading.{Step, ◌>>=◌, atom_if, elements_at, single_at, array_at, wire_at, message_at, is_four, is_id, is_time, is_type, is_array_head, number_in}
-use Rattle.nt_frames.proofs.Stages.{bind-ok, bind-err, Front, front-none, front-more, Took, atom_if-ok, atom_if-err, Stopped, stopped-fault, elements_at-ok, StoppedElement, elements_at-err, ok}
+use Rattle.nt_frames.proofs.Stages.{bind-ok, bind-err, Prefix, prefix-none, prefix-more, Took, atom_if-ok, atom_if-err, Stopped, stopped-fault, elements_at-ok, StoppedElement, elements_at-err, ok}
 use Rattle.nt_frames.proofs.Goes.{takes_head, takes_id, takes_time, takes_type, no_head, no_id, no_time, no_type, TakesWire, takes_wire, no_wire, takes_single, no_single, takes_array_head, no_array_head, takes_element, no_element, single-wire_is, array-wire_is}
 
 -- ---- what the tests say of an atom
@@ -67,10 +67,11 @@ array_head-is (map_head n) e = cc
 
 -- atoms of a value that were read
 pub record Wire (number : ℕ) (bytes : List ℕ) (y : List AtomValue × List ℕ) : Type 0 where
-  pub front : Front bytes y.0 y.1
+  pub prefix : Prefix bytes y.0 y.1
   pub wire_is : IsWire number y.0
 
-single_at-ok : (number : ℕ) (bytes : List ℕ) (y : List AtomValue × List ℕ) → is_single number ≡ true → single_at number bytes ≡ Ok y
+single_at-ok : (number : ℕ) (bytes : List ℕ) (y : List AtomValue × List ℕ) → is_single number ≡ true
+    → single_at number bytes ≡ Ok y
     → Wire number bytes y
 unfolding single_at
 single_at-ok number bytes y s h =
@@ -79,11 +80,12 @@ single_at-ok number bytes y s h =
     let e = one.2 in
     let is : (one.0.0 ∷ [], one.0.1) ≡ y = cc in
     subst (λ z. Wire number bytes z) is (record {
-      front = took.front;
+      prefix = took.prefix;
       wire_is = single-wire_is number (one.0.0 ∷ []) s (one.0.0, refl, took.test_is);
     })
 
-array_at-ok : (number : ℕ) (bytes : List ℕ) (y : List AtomValue × List ℕ) → is_single number ≡ false → array_at (number - 16) bytes ≡ Ok y
+array_at-ok : (number : ℕ) (bytes : List ℕ) (y : List AtomValue × List ℕ) → is_single number ≡ false
+    → array_at (number - 16) bytes ≡ Ok y
     → Wire number bytes y
 unfolding array_at
 array_at-ok number bytes y s h =
@@ -93,17 +95,20 @@ array_at-ok number bytes y s h =
     let rest = elements_at-ok (number - 16) (number_in one.0.0) one.0.1 others.0 others.1 in
     let e = others.2 in
     let is : (one.0.0 ∷ others.0.0, others.0.1) ≡ y = cc in
-    let head : one.0.0 ≡ array_head (length others.0.0) = array_head-is one.0.0 took.test_is ∙ ap array_head (sym rest.count) in
+    let head : one.0.0 ≡ array_head (length others.0.0) = array_head-is one.0.0 took.test_is
+    ∙ ap array_head (sym rest.count) in
     subst (λ z. Wire number bytes z) is (record {
-      front = front-more bytes (one.0.0 ∷ []) others.0.0 one.0.1 others.0.1 took.front rest.front;
+      prefix = prefix-more bytes (one.0.0 ∷ []) others.0.0 one.0.1 others.0.1 took.prefix rest.prefix;
       wire_is = array-wire_is number (one.0.0 ∷ others.0.0) s (others.0.0, ap (λ a. a ∷ others.0.0) head, rest.each);
     })
 
-wire_at-ok : (number : ℕ) (bytes : List ℕ) (y : List AtomValue × List ℕ) → wire_at number bytes ≡ Ok y → Wire number bytes y
+wire_at-ok : (number : ℕ) (bytes : List ℕ) (y : List AtomValue × List ℕ) → wire_at number bytes ≡ Ok y
+    → Wire number bytes y
 unfolding wire_at
 wire_at-ok number bytes y h = by (is_single number) refl h
   where
-    by : (b : Bool) → is_single number ≡ b → (if b then single_at number bytes else array_at (number - 16) bytes) ≡ Ok y → Wire number bytes y
+    by : (b : Bool) → is_single number ≡ b → (if b then single_at number bytes else array_at (number - 16) bytes)
+        ≡ Ok y → Wire number bytes y
     by true s h = single_at-ok number bytes y s h
     by false s h = array_at-ok number bytes y s h
 
@@ -111,7 +116,7 @@ wire_at-ok number bytes y h = by (is_single number) refl h
 pub record StoppedWire (number : ℕ) (bytes : List ℕ) (k : FrameKind) : Type 0 where
   pub before : List AtomValue
   pub left : List ℕ
-  pub front : Front bytes before left
+  pub prefix : Prefix bytes before left
   pub test : AtomValue → Bool
   pub good : AtomValue
   pub goes_on : TakesWire number before good
@@ -125,12 +130,13 @@ single_at-err number bytes k s h =
     by (bind-err (atom_if kinds.BadValue (may_stand number) bytes) (λ atom. ok atom.0 ([], atom.1)) k h)
   where
     by : (atom_if kinds.BadValue (may_stand number) bytes ≡ Err k)
-        ⊎ ((one : AtomValue × List ℕ) × (atom_if kinds.BadValue (may_stand number) bytes ≡ Ok one) × (ok one.0 ([], one.1) ≡ Err k))
+        ⊎ ((one : AtomValue × List ℕ) × (atom_if kinds.BadValue (may_stand number) bytes ≡ Ok one)
+        × (ok one.0 ([], one.1) ≡ Err k))
         → StoppedWire number bytes k
     by (inl e) = record {
       before = [];
       left = bytes;
-      front = front-none bytes;
+      prefix = prefix-none bytes;
       test = may_stand number;
       good = (takes_single number s).0;
       goes_on = (takes_single number s).1;
@@ -147,8 +153,8 @@ stopped_element number bytes k s l one took rest =
     record {
       before = array_head (number_in one.0) ∷ rest.before;
       left = rest.left;
-      front = front-more bytes (array_head (number_in one.0) ∷ []) rest.before one.1 rest.left
-          (subst (λ a. Front bytes (a ∷ []) one.1) (array_head-is one.0 took.test_is) took.front) rest.front;
+      prefix = prefix-more bytes (array_head (number_in one.0) ∷ []) rest.before one.1 rest.left
+          (subst (λ a. Prefix bytes (a ∷ []) one.1) (array_head-is one.0 took.test_is) took.prefix) rest.prefix;
       test = may_stand (number - 16);
       good = good.0;
       goes_on = good.1;
@@ -156,17 +162,21 @@ stopped_element number bytes k s l one took rest =
       stopped = rest.stopped;
     }
 
-array_at-err : (number : ℕ) (bytes : List ℕ) (k : FrameKind) → is_single number ≡ false → (number - 16) < 6 → array_at (number - 16) bytes ≡ Err k
+array_at-err : (number : ℕ) (bytes : List ℕ) (k : FrameKind) → is_single number ≡ false → (number - 16) < 6
+    → array_at (number - 16) bytes ≡ Err k
     → StoppedWire number bytes k
 unfolding array_at
 array_at-err number bytes k s l h =
-    by (bind-err (atom_if kinds.BadValue is_array_head bytes) (λ head. elements_at (number - 16) (number_in head.0) head.1 >>= λ others. ok head.0 others) k h)
+    by (bind-err (atom_if kinds.BadValue is_array_head bytes)
+    (λ head. elements_at (number - 16) (number_in head.0) head.1 >>= λ others. ok head.0 others) k h)
   where
     later : (one : AtomValue × List ℕ) → Took is_array_head bytes one
         → (elements_at (number - 16) (number_in one.0) one.1 ≡ Err k)
-        ⊎ ((y : List AtomValue × List ℕ) × (elements_at (number - 16) (number_in one.0) one.1 ≡ Ok y) × (ok one.0 y ≡ Err k))
+        ⊎ ((y : List AtomValue × List ℕ) × (elements_at (number - 16) (number_in one.0) one.1 ≡ Ok y)
+        × (ok one.0 y ≡ Err k))
         → StoppedWire number bytes k
-    later one took (inl e) = stopped_element number bytes k s l one took (elements_at-err (number - 16) (number_in one.0) one.1 k e)
+    later one took (inl e) = stopped_element number bytes k s l one took
+        (elements_at-err (number - 16) (number_in one.0) one.1 k e)
     later one took (inr o) = let e = o.2 in absurd (cc e)
 
     by : (atom_if kinds.BadValue is_array_head bytes ≡ Err k)
@@ -176,7 +186,7 @@ array_at-err number bytes k s l h =
     by (inl e) = record {
       before = [];
       left = bytes;
-      front = front-none bytes;
+      prefix = prefix-none bytes;
       test = is_array_head;
       good = array_head 0;
       goes_on = takes_array_head number s;
@@ -196,11 +206,13 @@ known_array number known s = by (nat_lt number 6) (nat_le 16 number) (nat_lt num
     by false true false e s k = absurd (cc k)
     by false false c e s k = absurd (cc k)
 
-wire_at-err : (number : ℕ) (bytes : List ℕ) (k : FrameKind) → is_known number ≡ true → wire_at number bytes ≡ Err k → StoppedWire number bytes k
+wire_at-err : (number : ℕ) (bytes : List ℕ) (k : FrameKind) → is_known number ≡ true → wire_at number bytes ≡ Err k
+    → StoppedWire number bytes k
 unfolding wire_at
 wire_at-err number bytes k known h = by (is_single number) refl h
   where
-    by : (b : Bool) → is_single number ≡ b → (if b then single_at number bytes else array_at (number - 16) bytes) ≡ Err k → StoppedWire number bytes k
+    by : (b : Bool) → is_single number ≡ b → (if b then single_at number bytes else array_at (number - 16) bytes)
+        ≡ Err k → StoppedWire number bytes k
     by true s h = single_at-err number bytes k s h
     by false s h = array_at-err number bytes k s (known_array number known s) h
 
@@ -210,7 +222,7 @@ wire_at-err number bytes k known h = by (is_single number) refl h
 abbrev whole : AtomValue → AtomValue → AtomValue → AtomValue → List AtomValue × List ℕ → Step (List AtomValue)
 whole head id time typ wire = Ok (head ∷ id ∷ time ∷ typ ∷ wire.0, wire.1)
 
--- the steps behind each of the first four atoms
+-- the steps after each of the first four atoms
 abbrev from_type : AtomValue → AtomValue → AtomValue → AtomValue × List ℕ → Step (List AtomValue)
 from_type head id time typ = wire_at (number_in typ.0) typ.1 >>= whole head id time typ.0
 
@@ -223,7 +235,7 @@ from_id head id = atom_if kinds.BadTime is_time id.1 >>= from_time head id.0
 abbrev from_head : AtomValue × List ℕ → Step (List AtomValue)
 from_head head = atom_if kinds.BadId is_id head.1 >>= from_id head.0
 
--- the first four atoms of a message stand at the front of the bytes
+-- the first four atoms of a message stand at the start of the bytes
 record Heading (bytes : List ℕ) (head id time typ : AtomValue) (left : List ℕ) : Type 0 where
   id_of : ℤ
   time_of : ℕ
@@ -234,12 +246,12 @@ record Heading (bytes : List ℕ) (head id time typ : AtomValue) (left : List �
   time_is : nat_lt time_of (2 ^ 63) ≡ true
   type_at : typ ≡ int (pos (number_in typ))
   type_is : is_known (number_in typ) ≡ true
-  front : Front bytes (head ∷ id ∷ time ∷ typ ∷ []) left
+  prefix : Prefix bytes (head ∷ id ∷ time ∷ typ ∷ []) left
 
 -- one more atom
 one_more : (bytes : List ℕ) (atoms : List AtomValue) (left : List ℕ) (test : AtomValue → Bool) (y : AtomValue × List ℕ)
-    → Front bytes atoms left → Took test left y → Front bytes (atoms ++ y.0 ∷ []) y.1
-one_more bytes atoms left test y f t = front-more bytes atoms (y.0 ∷ []) left y.1 f t.front
+    → Prefix bytes atoms left → Took test left y → Prefix bytes (atoms ++ y.0 ∷ []) y.1
+one_more bytes atoms left test y f t = prefix-more bytes atoms (y.0 ∷ []) left y.1 f t.prefix
 
 heading : (bytes : List ℕ) (head id time typ : AtomValue × List ℕ)
     → Took is_four bytes head → Took is_id head.1 id → Took is_time id.1 time → Took is_type time.1 typ
@@ -259,13 +271,14 @@ heading bytes head id time typ h i t n =
       time_is = time_at.2;
       type_at = type_at.1 ∙ ap (λ m. int (pos m)) (sym number);
       type_is = subst (λ m. is_known m ≡ true) (sym number) type_at.2;
-      front = one_more bytes (head.0 ∷ id.0 ∷ time.0 ∷ []) time.1 is_type typ
-          (one_more bytes (head.0 ∷ id.0 ∷ []) id.1 is_time time (one_more bytes (head.0 ∷ []) head.1 is_id id h.front i) t) n;
+      prefix = one_more bytes (head.0 ∷ id.0 ∷ time.0 ∷ []) time.1 is_type typ
+          (one_more bytes (head.0 ∷ id.0 ∷ []) id.1 is_time time
+          (one_more bytes (head.0 ∷ []) head.1 is_id id h.prefix i) t) n;
     }
 
 -- the atoms of a whole message that was read
 pub record Message (bytes : List ℕ) (y : List AtomValue × List ℕ) : Type 0 where
-  pub front : Front bytes y.0 y.1
+  pub prefix : Prefix bytes y.0 y.1
   pub whole : IsWhole y.0
 
 message_from : (bytes : List ℕ) (head id time typ : AtomValue) (left : List ℕ) (wire : List AtomValue × List ℕ)
@@ -276,7 +289,7 @@ message_from bytes head id time typ left wire h w =
     let same : head ∷ id ∷ time ∷ typ ∷ wire.0 ≡ atoms_of h.id_of h.time_of (number_in typ) wire.0 =
     (let a = h.head_is in let b = h.id_at in let c = h.time_at in let d = h.type_at in cc) in
     record {
-      front = front-more bytes (head ∷ id ∷ time ∷ typ ∷ []) wire.0 left wire.1 h.front w.front;
+      prefix = prefix-more bytes (head ∷ id ∷ time ∷ typ ∷ []) wire.0 left wire.1 h.prefix w.prefix;
       whole = record {
         id = h.id_of;
         time = h.time_of;
@@ -312,11 +325,13 @@ wire-fault : (most : ℕ) (bytes : List ℕ) (head id time typ : AtomValue) (lef
     → Heading bytes head id time typ left → StoppedWire (number_in typ) left k → IsFault most bytes k
 wire-fault most bytes head id time typ left k h w =
     let number = number_in typ in
-    let four : head ∷ id ∷ time ∷ typ ∷ [] ≡ array_head 4 ∷ int h.id_of ∷ int (pos h.time_of) ∷ int (pos (number_in typ)) ∷ [] =
+    let four : head ∷ id ∷ time ∷ typ ∷ [] ≡ array_head 4 ∷ int h.id_of ∷ int (pos h.time_of)
+    ∷ int (pos (number_in typ)) ∷ [] =
     (let a = h.head_is in let b = h.id_at in let c = h.time_at in let d = h.type_at in cc) in
     stopped-fault most bytes (atoms_of h.id_of h.time_of (number_in typ) w.before) w.left w.test k
-    (front-more bytes (array_head 4 ∷ int h.id_of ∷ int (pos h.time_of) ∷ int (pos (number_in typ)) ∷ []) w.before left w.left
-    (subst (λ z. Front bytes z left) four h.front) w.front)
+    (prefix-more bytes (array_head 4 ∷ int h.id_of ∷ int (pos h.time_of) ∷ int (pos (number_in typ)) ∷ []) w.before
+    left w.left
+    (subst (λ z. Prefix bytes z left) four h.prefix) w.prefix)
     w.good
     (takes_wire h.id_of h.time_of (number_in typ) w.before w.good h.id_is h.time_is h.type_is w.goes_on)
     (λ a t. no_wire h.id_of h.time_of (number_in typ) w.before a (w.refuses a t))
@@ -344,7 +359,8 @@ from_time-fault most bytes head id time k h i t e =
     by (bind-err (atom_if kinds.BadType is_type time.1) (from_type head.0 id.0 time.0) k e)
   where
     by : (atom_if kinds.BadType is_type time.1 ≡ Err k)
-        ⊎ ((typ : AtomValue × List ℕ) × (atom_if kinds.BadType is_type time.1 ≡ Ok typ) × (from_type head.0 id.0 time.0 typ ≡ Err k))
+        ⊎ ((typ : AtomValue × List ℕ) × (atom_if kinds.BadType is_type time.1 ≡ Ok typ)
+        × (from_type head.0 id.0 time.0 typ ≡ Err k))
         → IsFault most bytes k
     by (inl e) =
         let id_at = id-is id.0 i.test_is in
@@ -352,25 +368,29 @@ from_time-fault most bytes head id time k h i t e =
         let three : head.0 ∷ id.0 ∷ time.0 ∷ [] ≡ array_head 4 ∷ int id_at.0 ∷ int (pos time_at.0) ∷ [] =
         (let a = four-is head.0 h.test_is in let b = id_at.1 in let c = time_at.1 in cc) in
         stopped-fault most bytes (array_head 4 ∷ int id_at.0 ∷ int (pos time_at.0) ∷ []) time.1 is_type k
-        (subst (λ z. Front bytes z time.1) three
-        (one_more bytes (head.0 ∷ id.0 ∷ []) id.1 is_time time (one_more bytes (head.0 ∷ []) head.1 is_id id h.front i) t))
+        (subst (λ z. Prefix bytes z time.1) three
+        (one_more bytes (head.0 ∷ id.0 ∷ []) id.1 is_time time
+        (one_more bytes (head.0 ∷ []) head.1 is_id id h.prefix i) t))
         (int (pos 0)) (takes_type id_at.0 time_at.0 0 id_at.2 time_at.2 refl) (no_type id_at.0 time_at.0)
         (atom_if-err kinds.BadType is_type time.1 k e)
-    by (inr o) = from_type-fault most bytes head id time o.0 k h i t (atom_if-ok kinds.BadType is_type time.1 o.0 o.1) o.2
+    by (inr o) = from_type-fault most bytes head id time o.0 k h i t
+        (atom_if-ok kinds.BadType is_type time.1 o.0 o.1) o.2
 
 from_id-fault : (most : ℕ) (bytes : List ℕ) (head id : AtomValue × List ℕ) (k : FrameKind)
     → Took is_four bytes head → Took is_id head.1 id → from_id head.0 id ≡ Err k → IsFault most bytes k
-from_id-fault most bytes head id k h i e = by (bind-err (atom_if kinds.BadTime is_time id.1) (from_time head.0 id.0) k e)
+from_id-fault most bytes head id k h i e = by
+    (bind-err (atom_if kinds.BadTime is_time id.1) (from_time head.0 id.0) k e)
   where
     by : (atom_if kinds.BadTime is_time id.1 ≡ Err k)
-        ⊎ ((time : AtomValue × List ℕ) × (atom_if kinds.BadTime is_time id.1 ≡ Ok time) × (from_time head.0 id.0 time ≡ Err k))
+        ⊎ ((time : AtomValue × List ℕ) × (atom_if kinds.BadTime is_time id.1 ≡ Ok time)
+        × (from_time head.0 id.0 time ≡ Err k))
         → IsFault most bytes k
     by (inl e) =
         let id_at = id-is id.0 i.test_is in
         let two : head.0 ∷ id.0 ∷ [] ≡ array_head 4 ∷ int id_at.0 ∷ [] =
         (let a = four-is head.0 h.test_is in let b = id_at.1 in cc) in
         stopped-fault most bytes (array_head 4 ∷ int id_at.0 ∷ []) id.1 is_time k
-        (subst (λ z. Front bytes z id.1) two (one_more bytes (head.0 ∷ []) head.1 is_id id h.front i))
+        (subst (λ z. Prefix bytes z id.1) two (one_more bytes (head.0 ∷ []) head.1 is_id id h.prefix i))
         (int (pos 0)) (takes_time id_at.0 0 id_at.2 refl) (no_time id_at.0)
         (atom_if-err kinds.BadTime is_time id.1 k e)
     by (inr o) = from_time-fault most bytes head id o.0 k h i (atom_if-ok kinds.BadTime is_time id.1 o.0 o.1) o.2
@@ -385,7 +405,7 @@ from_head-fault most bytes head k h e = by (bind-err (atom_if kinds.BadId is_id 
     by (inl e) =
         let one : head.0 ∷ [] ≡ array_head 4 ∷ [] = (let a = four-is head.0 h.test_is in cc) in
         stopped-fault most bytes (array_head 4 ∷ []) head.1 is_id k
-        (subst (λ z. Front bytes z head.1) one h.front)
+        (subst (λ z. Prefix bytes z head.1) one h.prefix)
         (int (pos 0)) (takes_id (pos 0) refl) no_id (atom_if-err kinds.BadId is_id head.1 k e)
     by (inr o) = from_id-fault most bytes head o.0 k h (atom_if-ok kinds.BadId is_id head.1 o.0 o.1) o.2
 
@@ -397,6 +417,6 @@ message_at-err most bytes k e = by (bind-err (atom_if kinds.NotArray4 is_four by
         ⊎ ((head : AtomValue × List ℕ) × (atom_if kinds.NotArray4 is_four bytes ≡ Ok head) × (from_head head ≡ Err k))
         → IsFault most bytes k
     by (inl e) =
-        stopped-fault most bytes [] bytes is_four k (front-none bytes) (array_head 4) takes_head no_head
+        stopped-fault most bytes [] bytes is_four k (prefix-none bytes) (array_head 4) takes_head no_head
         (atom_if-err kinds.NotArray4 is_four bytes k e)
     by (inr o) = from_head-fault most bytes o.0 k (atom_if-ok kinds.NotArray4 is_four bytes o.0 o.1) o.2

@@ -1,4 +1,4 @@
--- What the steps of reading a message mean: the atoms that were read are spelled at the front of the bytes, and where
+-- What the steps of reading a message mean: the atoms that were read are spelled at the start of the bytes, and where
 -- reading stops the message is at fault.
 use Rattle.std.proofs.Common.{◌≡◌, ◌⊎◌, inl, inr, ℕ, zero, suc, ◌<◌, Bool, true, false, List, [], ◌∷◌, ◌++◌, length, take, drop, Result, Ok, Err, refl, ap, sym, ◌∙◌, subst, append_assoc, if◌then◌else◌, arith}
 use Rattle.std.specs.List.{list_all}
@@ -14,38 +14,41 @@ use Rattle.nt_frames.proofs.Rows.{spelled-one, spelled-append}
 
 -- ---- steps one after another
 
-pub bind-ok : {A B : Type 0} (step : Result A FrameKind) (next : A → Result B FrameKind) (z : B) → (step >>= next) ≡ Ok z
+pub bind-ok : {A B : Type 0} (step : Result A FrameKind) (next : A → Result B FrameKind) (z : B)
+    → (step >>= next) ≡ Ok z
     → (y : A) × (step ≡ Ok y) × (next y ≡ Ok z)
 bind-ok (Ok y) next z e = (y, refl, e)
 bind-ok (Err kind) next z e = cc
 
-pub bind-err : {A B : Type 0} (step : Result A FrameKind) (next : A → Result B FrameKind) (k : FrameKind) → (step >>= next) ≡ Err k
+pub bind-err : {A B : Type 0} (step : Result A FrameKind) (next : A → Result B FrameKind) (k : FrameKind)
+    → (step >>= next) ≡ Err k
     → (step ≡ Err k) ⊎ ((y : A) × (step ≡ Ok y) × (next y ≡ Err k))
 bind-err (Ok y) next k e = inr (y, refl, e)
 bind-err (Err kind) next k e = let same : kind ≡ k = cc in inl (ap (λ z. Err z) same)
 
 -- ---- one atom
 
--- these atoms are spelled at the front of the bytes, and this is left behind them
-pub record Front (bytes : List ℕ) (atoms : List AtomValue) (left : List ℕ) : Type 0 where
-  pub front : List ℕ
-  pub whole : bytes ≡ front ++ left
-  pub spelled : AreSpelled atoms front
+-- these atoms are spelled at the start of the bytes, and this is left after them
+pub record Prefix (bytes : List ℕ) (atoms : List AtomValue) (left : List ℕ) : Type 0 where
+  pub prefix : List ℕ
+  pub whole : bytes ≡ prefix ++ left
+  pub spelled : AreSpelled atoms prefix
 
-pub front-none : (bytes : List ℕ) → Front bytes [] bytes
-front-none bytes = record { front = []; whole = refl; spelled = refl }
+pub prefix-none : (bytes : List ℕ) → Prefix bytes [] bytes
+prefix-none bytes = record { prefix = []; whole = refl; spelled = refl }
 
-pub front-more : (bytes : List ℕ) (atoms more : List AtomValue) (left rest : List ℕ) → Front bytes atoms left → Front left more rest
-    → Front bytes (atoms ++ more) rest
-front-more bytes atoms more left rest f g = record {
-  front = f.front ++ g.front;
-  whole = f.whole ∙ ap (λ z. f.front ++ z) g.whole ∙ sym (append_assoc f.front g.front rest);
-  spelled = spelled-append atoms more f.front g.front f.spelled g.spelled;
+pub prefix-more : (bytes : List ℕ) (atoms more : List AtomValue) (left rest : List ℕ) → Prefix bytes atoms left
+    → Prefix left more rest
+    → Prefix bytes (atoms ++ more) rest
+prefix-more bytes atoms more left rest f g = record {
+  prefix = f.prefix ++ g.prefix;
+  whole = f.whole ∙ ap (λ z. f.prefix ++ z) g.whole ∙ sym (append_assoc f.prefix g.prefix rest);
+  spelled = spelled-append atoms more f.prefix g.prefix f.spelled g.spelled;
 }
 
 -- the atom that a step took
 pub record Took (test : AtomValue → Bool) (bytes : List ℕ) (y : AtomValue × List ℕ) : Type 0 where
-  pub front : Front bytes (y.0 ∷ []) y.1
+  pub prefix : Prefix bytes (y.0 ∷ []) y.1
   pub test_is : test y.0 ≡ true
 
 take_drop : (n : ℕ) (xs : List ℕ) → xs ≡ take n xs ++ drop n xs
@@ -64,7 +67,11 @@ tested-ok kind test bytes (got atom used) y e h = by (test atom) refl h
         let is : (atom, drop used bytes) ≡ y = cc in
         let spells = ((atom_at-got bytes atom used).0 e).2 in
         subst (λ z. Took test bytes z) is (record {
-          front = record { front = take used bytes; whole = take_drop used bytes; spelled = spelled-one atom (take used bytes) spells };
+          prefix = record {
+            prefix = take used bytes;
+            whole = take_drop used bytes;
+            spelled = spelled-one atom (take used bytes) spells;
+          };
           test_is = t;
         })
     by false t h = cc
@@ -79,10 +86,10 @@ atom_if-ok kind test bytes y h = tested-ok kind test bytes (atom_at bytes) y ref
 -- an atom that fails the test begins these bytes
 pub record Fails (test : AtomValue → Bool) (bytes : List ℕ) : Type 0 where
   pub atom : AtomValue
-  pub front : List ℕ
+  pub prefix : List ℕ
   pub rest : List ℕ
-  pub whole : bytes ≡ front ++ rest
-  pub spells : Spells atom front
+  pub whole : bytes ≡ prefix ++ rest
+  pub spells : Spells atom prefix
   pub test_is : test atom ≡ false
 
 -- why a step stopped with this kind
@@ -103,7 +110,7 @@ tested-err kind test bytes (got atom used) k e h = by (test atom) refl h
           is,
           inr (record {
             atom = atom;
-            front = take used bytes;
+            prefix = take used bytes;
             rest = drop used bytes;
             whole = take_drop used bytes;
             spells = spells;
@@ -111,7 +118,8 @@ tested-err kind test bytes (got atom used) k e h = by (test atom) refl h
           }),
         )
 tested-err kind test bytes short k e h = let is : k ≡ kinds.Short = cc in inl (is, (atom_at-is_short bytes).0 e)
-tested-err kind test bytes (bad first) k e h = let is : k ≡ kind = cc in inr (is, inl (first, (atom_at-is_bad bytes first).0 e))
+tested-err kind test bytes (bad first) k e h = let is : k ≡ kind = cc in
+    inr (is, inl (first, (atom_at-is_bad bytes first).0 e))
 
 pub atom_if-err : (kind : FrameKind) (test : AtomValue → Bool) (bytes : List ℕ) (k : FrameKind)
     → atom_if kind test bytes ≡ Err k → Stopped kind test bytes k
@@ -127,21 +135,27 @@ wrong-fault most (suc (suc zero)) bytes w = w
 wrong-fault most (suc (suc (suc zero))) bytes w = w
 wrong-fault most (suc (suc (suc (suc n)))) bytes w = w
 
--- behind these atoms a message goes on, only with atoms that meet the test, and the step there stopped
-pub stopped-fault : (most : ℕ) (bytes : List ℕ) (atoms : List AtomValue) (left : List ℕ) (test : AtomValue → Bool) (k : FrameKind)
-    → Front bytes atoms left → (good : AtomValue) → Takes atoms good
+-- after these atoms a message goes on, only with atoms that meet the test, and the step there stopped
+pub stopped-fault : (most : ℕ) (bytes : List ℕ) (atoms : List AtomValue) (left : List ℕ) (test : AtomValue → Bool)
+    (k : FrameKind)
+    → Prefix bytes atoms left → (good : AtomValue) → Takes atoms good
     → ((a : AtomValue) → test a ≡ false → ¬ (Takes atoms a))
     → Stopped (kind_at (length atoms)) test left k → IsFault most bytes k
 stopped-fault most bytes atoms left test k f good takes refuses (inl s) =
     subst (λ z. IsFault most bytes z) (sym s.0)
-    (atoms, left, record { front = f.front; whole = f.whole; spelled = f.spelled; next = good; goes_on = takes }, s.1)
+    (atoms, left, record { prefix = f.prefix; whole = f.whole; spelled = f.spelled; next = good; goes_on = takes }, s.1)
 stopped-fault most bytes atoms left test k f good takes refuses (inr s) =
-    subst (λ z. IsFault most bytes z) (sym s.0) (wrong-fault most (length atoms) bytes
-    (atoms, left, record { front = f.front; whole = f.whole; spelled = f.spelled; next = good; goes_on = takes }, refl, wrong s.1))
+    subst (λ z. IsFault most bytes z) (sym s.0) (wrong-fault most (length atoms) bytes (
+      atoms,
+      left,
+      record { prefix = f.prefix; whole = f.whole; spelled = f.spelled; next = good; goes_on = takes },
+      refl,
+      wrong s.1,
+    ))
   where
     wrong : ((first : ℕ) × IsBad left first) ⊎ (Fails test left) → IsWrong atoms left
     wrong (inl b) = inl b
-    wrong (inr w) = inr (w.atom, w.front, w.rest, w.whole, w.spells, refuses w.atom w.test_is)
+    wrong (inr w) = inr (w.atom, w.prefix, w.rest, w.whole, w.spells, refuses w.atom w.test_is)
 
 -- ---- elements
 
@@ -151,7 +165,7 @@ ok first others = Ok (first ∷ others.0, others.1)
 
 -- elements that were read
 pub record Elements (number n : ℕ) (bytes : List ℕ) (y : List AtomValue × List ℕ) : Type 0 where
-  pub front : Front bytes y.0 y.1
+  pub prefix : Prefix bytes y.0 y.1
   pub count : length y.0 ≡ n
   pub each : list_all (may_stand number) y.0 ≡ true
 
@@ -160,7 +174,7 @@ pub elements_at-ok : (number n : ℕ) (bytes : List ℕ) (y : List AtomValue × 
 unfolding elements_at
 elements_at-ok number zero bytes y h =
     let is : ([], bytes) ≡ y = cc in
-    subst (λ z. Elements number 0 bytes z) is (record { front = front-none bytes; count = refl; each = refl })
+    subst (λ z. Elements number 0 bytes z) is (record { prefix = prefix-none bytes; count = refl; each = refl })
 elements_at-ok number (suc n) bytes y h =
     let one = bind-ok (atom_if kinds.BadValue (may_stand number) bytes) _ y h in
     let took = atom_if-ok kinds.BadValue (may_stand number) bytes one.0 one.1 in
@@ -168,7 +182,7 @@ elements_at-ok number (suc n) bytes y h =
     let rest = elements_at-ok number n one.0.1 others.0 others.1 in
     let is : (one.0.0 ∷ others.0.0, others.0.1) ≡ y = cc in
     subst (λ z. Elements number (suc n) bytes z) is (record {
-      front = front-more bytes (one.0.0 ∷ []) others.0.0 one.0.1 others.0.1 took.front rest.front;
+      prefix = prefix-more bytes (one.0.0 ∷ []) others.0.0 one.0.1 others.0.1 took.prefix rest.prefix;
       count = ap suc rest.count;
       each = rw took.test_is rest.each;
     })
@@ -177,17 +191,18 @@ elements_at-ok number (suc n) bytes y h =
 pub record StoppedElement (number n : ℕ) (bytes : List ℕ) (k : FrameKind) : Type 0 where
   pub before : List AtomValue
   pub left : List ℕ
-  pub front : Front bytes before left
+  pub prefix : Prefix bytes before left
   pub some_left : length before < n
   pub each : list_all (may_stand number) before ≡ true
   pub stopped : Stopped kinds.BadValue (may_stand number) left k
 
-later_element : (number n : ℕ) (bytes : List ℕ) (k : FrameKind) (one : AtomValue × List ℕ) → Took (may_stand number) bytes one
+later_element : (number n : ℕ) (bytes : List ℕ) (k : FrameKind) (one : AtomValue × List ℕ)
+    → Took (may_stand number) bytes one
     → StoppedElement number n one.1 k → StoppedElement number (suc n) bytes k
 later_element number n bytes k one took rest = record {
   before = one.0 ∷ rest.before;
   left = rest.left;
-  front = front-more bytes (one.0 ∷ []) rest.before one.1 rest.left took.front rest.front;
+  prefix = prefix-more bytes (one.0 ∷ []) rest.before one.1 rest.left took.prefix rest.prefix;
   some_left = omega (arith, rest.some_left);
   each = rw took.test_is rest.each;
   stopped = rest.stopped;
@@ -199,11 +214,13 @@ unfolding elements_at
 elements_at-err number zero bytes k h = cc
 elements_at-err number (suc n) bytes k h =
     by (λ rest. elements_at-err number n rest k)
-    (bind-err (atom_if kinds.BadValue (may_stand number) bytes) (λ first. elements_at number n first.1 >>= λ others. ok first.0 others) k h)
+    (bind-err (atom_if kinds.BadValue (may_stand number) bytes)
+    (λ first. elements_at number n first.1 >>= λ others. ok first.0 others) k h)
   where
     later : ((rest : List ℕ) → elements_at number n rest ≡ Err k → StoppedElement number n rest k)
         → (one : AtomValue × List ℕ) → Took (may_stand number) bytes one
-        → (elements_at number n one.1 ≡ Err k) ⊎ ((y : List AtomValue × List ℕ) × (elements_at number n one.1 ≡ Ok y) × (ok one.0 y ≡ Err k))
+        → (elements_at number n one.1 ≡ Err k) ⊎ ((y : List AtomValue × List ℕ) × (elements_at number n one.1 ≡ Ok y)
+        × (ok one.0 y ≡ Err k))
         → StoppedElement number (suc n) bytes k
     later again one took (inl e) = later_element number n bytes k one took (again one.1 e)
     later again one took (inr o) = let e = o.2 in cc
@@ -216,7 +233,7 @@ elements_at-err number (suc n) bytes k h =
     by again (inl e) = record {
       before = [];
       left = bytes;
-      front = front-none bytes;
+      prefix = prefix-none bytes;
       some_left = omega arith;
       each = refl;
       stopped = atom_if-err kinds.BadValue (may_stand number) bytes k e;

@@ -45,7 +45,8 @@ float-sure x y (binary bs) p q = absurd p
 float-sure x y (array_head n) p q = absurd p
 float-sure x y (map_head n) p q = absurd p
 
-one-sure : {X : Type 0} (is : X → AtomValue → Type 0) → IsSure is → (x y : X) (w : List AtomValue) → One is x w → One is y w → x ≡ y
+one-sure : {X : Type 0} (is : X → AtomValue → Type 0) → IsSure is → (x y : X) (w : List AtomValue) → One is x w
+    → One is y w → x ≡ y
 one-sure is sure x y w p q =
     let same : p.0 ≡ q.0 = (let e : p.0 ∷ [] ≡ q.0 ∷ [] = sym p.1 ∙ q.1 in cc) in
     sure x y q.0 (subst (λ a. is x a) same p.2) q.2
@@ -61,7 +62,8 @@ pairs-sure is sure (x ∷ xs) (y ∷ ys) [] p q = absurd p
 pairs-sure is sure (x ∷ xs) (y ∷ ys) (e ∷ es) p q =
     let first = sure x y e p.0 q.0 in let rest = pairs-sure is sure xs ys es p.1 q.1 in cc
 
-each-sure : {X : Type 0} (is : X → AtomValue → Type 0) → IsSure is → (xs ys : List X) (w : List AtomValue) → Each is xs w → Each is ys w → xs ≡ ys
+each-sure : {X : Type 0} (is : X → AtomValue → Type 0) → IsSure is → (xs ys : List X) (w : List AtomValue)
+    → Each is xs w → Each is ys w → xs ≡ ys
 each-sure is sure xs ys w p q =
     let same : p.0 ≡ q.0 = (let e = sym p.1 ∙ q.1 in cc) in
     pairs-sure is sure xs ys q.0 (subst (λ es. AllZip is xs es) same p.2) q.2
@@ -117,22 +119,29 @@ pub stand-one : (v u : Value) (w : List AtomValue) → value_number u ≡ value_
 stand-one (values.Bool x) u w e p q =
     let k = as_bool u e in ap values.Bool (one-sure IsBool bool-sure x k.0 w p (subst (λ z. Stand z w) k.1 q)) ∙ sym k.1
 stand-one (values.Double x) u w e p q =
-    let k = as_double u e in ap values.Double (one-sure IsDouble double-sure x k.0 w p (subst (λ z. Stand z w) k.1 q)) ∙ sym k.1
+    let k = as_double u e in ap values.Double (one-sure IsDouble double-sure x k.0 w p (subst (λ z. Stand z w) k.1 q))
+    ∙ sym k.1
 stand-one (values.Int x) u w e p q =
     let k = as_int u e in ap values.Int (one-sure IsInt int-sure x k.0 w p (subst (λ z. Stand z w) k.1 q)) ∙ sym k.1
 stand-one (values.Float x) u w e p q =
-    let k = as_float u e in ap values.Float (one-sure IsFloat float-sure x k.0 w p (subst (λ z. Stand z w) k.1 q)) ∙ sym k.1
+    let k = as_float u e in ap values.Float (one-sure IsFloat float-sure x k.0 w p (subst (λ z. Stand z w) k.1 q))
+    ∙ sym k.1
 stand-one (values.Text x) u w e p q =
     let k = as_text u e in ap values.Text (one-sure IsText text-sure x k.0 w p (subst (λ z. Stand z w) k.1 q)) ∙ sym k.1
 stand-one (values.Bytes x) u w e p q =
-    let k = as_bytes u e in ap values.Bytes (one-sure IsBinary binary-sure x k.0 w p (subst (λ z. Stand z w) k.1 q)) ∙ sym k.1
+    let k = as_bytes u e in ap values.Bytes (one-sure IsBinary binary-sure x k.0 w p (subst (λ z. Stand z w) k.1 q))
+    ∙ sym k.1
 stand-one (values.Bools x) u w e p q =
-    let k = as_bools u e in ap values.Bools (each-sure IsBool bool-sure x k.0 w p (subst (λ z. Stand z w) k.1 q)) ∙ sym k.1
+    let k = as_bools u e in ap values.Bools (each-sure IsBool bool-sure x k.0 w p (subst (λ z. Stand z w) k.1 q))
+    ∙ sym k.1
 stand-one (values.Doubles x) u w e p q =
-    let k = as_doubles u e in ap values.Doubles (each-sure IsDouble double-sure x k.0 w p (subst (λ z. Stand z w) k.1 q)) ∙ sym k.1
+    let k = as_doubles u e in ap values.Doubles (each-sure IsDouble double-sure x k.0 w p
+    (subst (λ z. Stand z w) k.1 q)) ∙ sym k.1
 stand-one (values.Ints x) u w e p q =
     let k = as_ints u e in ap values.Ints (each-sure IsInt int-sure x k.0 w p (subst (λ z. Stand z w) k.1 q)) ∙ sym k.1
 stand-one (values.Floats x) u w e p q =
-    let k = as_floats u e in ap values.Floats (each-sure IsFloat float-sure x k.0 w p (subst (λ z. Stand z w) k.1 q)) ∙ sym k.1
+    let k = as_floats u e in ap values.Floats (each-sure IsFloat float-sure x k.0 w p (subst (λ z. Stand z w) k.1 q))
+    ∙ sym k.1
 stand-one (values.Texts x) u w e p q =
-    let k = as_texts u e in ap values.Texts (each-sure IsText text-sure x k.0 w p (subst (λ z. Stand z w) k.1 q)) ∙ sym k.1
+    let k = as_texts u e in ap values.Texts (each-sure IsText text-sure x k.0 w p (subst (λ z. Stand z w) k.1 q))
+    ∙ sym k.1

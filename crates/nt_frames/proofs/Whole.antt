@@ -13,7 +13,8 @@ single-once n w more p q =
 
 array-once : (n : ℕ) (w more : List AtomValue) → IsArray n w → IsArray n (w ++ more) → more ≡ []
 array-once n w more p q =
-    let whole : array_head (length p.0) ∷ (p.0 ++ more) ≡ array_head (length q.0) ∷ q.0 = sym (ap (λ z. z ++ more) p.1) ∙ q.1 in
+    let whole : array_head (length p.0) ∷ (p.0 ++ more) ≡ array_head (length q.0)
+    ∷ q.0 = sym (ap (λ z. z ++ more) p.1) ∙ q.1 in
     let count : length p.0 ≡ length q.0 = cc in
     let elements : p.0 ++ more ≡ q.0 = cc in
     nothing more (omega (arith, count, ap length elements, length-append p.0 more))
@@ -23,7 +24,7 @@ wire-once : (b : Bool) (n m : ℕ) (w more : List AtomValue) → MatchBool b (Is
 wire-once true n m w more p q = single-once n w more p q
 wire-once false n m w more p q = array-once m w more p q
 
--- no message goes on behind a whole one
+-- no message goes on after a whole one
 pub whole-once : (ps more : List AtomValue) → IsWhole ps → IsWhole (ps ++ more) → more ≡ []
 whole-once ps more p q =
     let same : atoms_of p.id p.time p.number (p.wire ++ more) ≡ atoms_of q.id q.time q.number q.wire

@@ -21,7 +21,8 @@ spelled-shortest [] h = refl
 spelled-shortest (a ∷ atoms) h =
     (shortest a, flat_map shortest atoms, refl, shortest-spelled a h.0.0 h.0.1, spelled-shortest atoms h.1)
 
-own-pairs : {X : Type 0} (is : X → AtomValue → Type 0) (own : X → AtomValue) → ((x : X) → is x (own x)) → (xs : List X) → AllZip is xs (map own xs)
+own-pairs : {X : Type 0} (is : X → AtomValue → Type 0) (own : X → AtomValue) → ((x : X) → is x (own x))
+    → (xs : List X) → AllZip is xs (map own xs)
 own-pairs is own h [] = tt
 own-pairs is own h (x ∷ xs) = (h x, own-pairs is own h xs)
 
@@ -66,14 +67,16 @@ message-back most m h r = record {
 }
 
 -- what is written is a frame of the messages
-pub frame-back : (most : ℕ) (ms : List ValueMsg) → AllByRecursion HasSpelling ms → AllByRecursion (IsInRange most) ms → IsFrame most ms (frame_of ms)
+pub frame-back : (most : ℕ) (ms : List ValueMsg) → AllByRecursion HasSpelling ms → AllByRecursion (IsInRange most) ms
+    → IsFrame most ms (frame_of ms)
 frame-back most [] h r = refl
 frame-back most (m ∷ ms) h r =
     (spelling_of m, frame_of ms, refl, message-back most m h.0 r.0, r.0.size, frame-back most ms h.1 r.1)
 
 -- ---- writing one after another
 
-pub each-more : {X : Type 0} (P : X → Type 0) (xs : List X) (x : X) → AllByRecursion P xs → P x → AllByRecursion P (xs ++ x ∷ [])
+pub each-more : {X : Type 0} (P : X → Type 0) (xs : List X) (x : X) → AllByRecursion P xs → P x
+    → AllByRecursion P (xs ++ x ∷ [])
 each-more P [] x h p = (p, tt)
 each-more P (y ∷ xs) x h p = (h.0, each-more P xs x h.1 p)
 
@@ -90,12 +93,18 @@ pub record Listed (number : ℕ) (before out : List ℕ) (atoms : List AtomValue
   pub spelled : AllByRecursion CanSpell atoms
   pub each : list_all (may_stand number) elements ≡ true
 
-pub listed-none : (number count : ℕ) (before out : List ℕ) → CanSpell (array_head count) → out ≡ before ++ shortest (array_head count)
+pub listed-none : (number count : ℕ) (before out : List ℕ) → CanSpell (array_head count)
+    → out ≡ before ++ shortest (array_head count)
     → Listed number before out (array_head count ∷ []) []
 listed-none number count before out h e =
-    record { written = e ∙ ap (λ z. before ++ z) (sym (append-nil (shortest (array_head count)))); spelled = (h, tt); each = refl }
+    record {
+      written = e ∙ ap (λ z. before ++ z) (sym (append-nil (shortest (array_head count))));
+      spelled = (h, tt);
+      each = refl;
+    }
 
-pub listed-more : {X : Type 0} (number count : ℕ) (own : X → AtomValue) (before out after : List ℕ) (xs ys : List X) (x : X)
+pub listed-more : {X : Type 0} (number count : ℕ) (own : X → AtomValue) (before out after : List ℕ) (xs ys : List X)
+    (x : X)
     → ys ≡ xs ++ x ∷ []
     → Listed number before out (array_head count ∷ map own xs) (map own xs)
     → after ≡ out ++ shortest (own x) → CanSpell (own x) → may_stand number (own x) ≡ true
@@ -109,7 +118,8 @@ listed-more number count own before out after xs ys x e l a s m =
     })
 
 -- a list whose elements may each stand in it is an array
-pub listed-array : {X : Type 0} (number : ℕ) (own : X → AtomValue) (xs : List X) → list_all (may_stand number) (map own xs) ≡ true
+pub listed-array : {X : Type 0} (number : ℕ) (own : X → AtomValue) (xs : List X)
+    → list_all (may_stand number) (map own xs) ≡ true
     → IsArray number (array_head (length xs) ∷ map own xs)
 listed-array number own xs e = (map own xs, ap (λ n. array_head n ∷ map own xs) (sym (length-map xs own)), e)
 
@@ -122,11 +132,13 @@ listed-all number count i own before out xs e le l =
     (subst (λ z. Listed number before out (array_head count ∷ map own z) (map own z)) (take_all i xs le) l)
 
 -- an element of a list, taken with those before it
-pub taken-more : {X : Type 0} (xs : List X) (i : ℕ) (x : X) → i < length xs → x ≡ get_or xs i x → take (i + 1) xs ≡ take i xs ++ x ∷ []
+pub taken-more : {X : Type 0} (xs : List X) (i : ℕ) (x : X) → i < length xs → x ≡ get_or xs i x
+    → take (i + 1) xs ≡ take i xs ++ x ∷ []
 taken-more xs i x l e = take_more xs i x l ∙ ap (λ z. take i xs ++ z ∷ []) (sym e)
 
 -- one atom that may stand for a single value of this type
-pub own-single : (number : ℕ) (atom : AtomValue) → is_single number ≡ true → may_stand number atom ≡ true → IsWire number (atom ∷ [])
+pub own-single : (number : ℕ) (atom : AtomValue) → is_single number ≡ true → may_stand number atom ≡ true
+    → IsWire number (atom ∷ [])
 own-single number atom s e = single-wire_is number (atom ∷ []) s (atom, refl, e)
 
 -- five pieces written one after another
@@ -149,4 +161,5 @@ pub read-back : (most i : ℕ) (ms : List ValueMsg) (bytes : List ℕ) → lengt
     → AllByRecursion HasSpelling (take i ms) → AllByRecursion (IsInRange most) ms → IsFrame most ms bytes
 read-back most i ms bytes l e h r =
     let all : take i ms ≡ ms = take_all i ms l in
-    subst (λ z. IsFrame most ms z) (sym (e ∙ ap frame_of all)) (frame-back most ms (subst (λ z. AllByRecursion HasSpelling z) all h) r)
+    subst (λ z. IsFrame most ms z) (sym (e ∙ ap frame_of all))
+    (frame-back most ms (subst (λ z. AllByRecursion HasSpelling z) all h) r)

@@ -144,8 +144,8 @@ pub record IsLawful (id : ℤ) (time number : ℕ) (wire : List AtomValue) : Typ
 -- spellings of these atoms in a row
 abbrev pub AreSpelled : List AtomValue → List ℕ → Type 0
 AreSpelled [] bytes = bytes ≡ []
-AreSpelled (atom ∷ atoms) bytes = (front : List ℕ) × (rest : List ℕ) × (bytes ≡ front ++ rest)
-    × Spells atom front × AreSpelled atoms rest
+AreSpelled (atom ∷ atoms) bytes = (prefix : List ℕ) × (rest : List ℕ) × (bytes ≡ prefix ++ rest)
+    × Spells atom prefix × AreSpelled atoms rest
 
 -- the bytes spell this message
 pub record IsMessage (m : ValueMsg) (bytes : List ℕ) : Type 0 where
@@ -157,8 +157,8 @@ pub record IsMessage (m : ValueMsg) (bytes : List ℕ) : Type 0 where
 -- spellings of these messages in a row, each of at most this size
 abbrev pub IsFrame : ℕ → List ValueMsg → List ℕ → Type 0
 IsFrame most [] bytes = bytes ≡ []
-IsFrame most (m ∷ ms) bytes = (front : List ℕ) × (rest : List ℕ) × (bytes ≡ front ++ rest)
-    × IsMessage m front × (size_of m.value ≤ most) × IsFrame most ms rest
+IsFrame most (m ∷ ms) bytes = (prefix : List ℕ) × (rest : List ℕ) × (bytes ≡ prefix ++ rest)
+    × IsMessage m prefix × (size_of m.value ≤ most) × IsFrame most ms rest
 
 -- ---- faults
 
@@ -178,18 +178,18 @@ Takes atoms next = (more : List AtomValue) × IsWhole (atoms ++ next ∷ more)
 -- the bytes begin with spellings of these atoms, a message begins with them and goes on, and this is what
 -- is left
 pub record Stops (bytes : List ℕ) (atoms : List AtomValue) (left : List ℕ) : Type 0 where
-  pub front : List ℕ
-  pub whole : bytes ≡ front ++ left
-  pub spelled : AreSpelled atoms front
+  pub prefix : List ℕ
+  pub whole : bytes ≡ prefix ++ left
+  pub spelled : AreSpelled atoms prefix
   pub next : AtomValue
   pub goes_on : Takes atoms next
 
--- no atom begins these bytes however they go on, or one does with which no message goes on behind these
+-- no atom begins these bytes however they go on, or one does with which no message goes on after these
 -- atoms
 abbrev pub IsWrong : List AtomValue → List ℕ → Type 0
 IsWrong atoms left = ((first : ℕ) × IsBad left first)
-    ⊎ ((next : AtomValue) × (front : List ℕ) × (rest : List ℕ) × (left ≡ front ++ rest)
-    × Spells next front × ¬ (Takes atoms next))
+    ⊎ ((next : AtomValue) × (prefix : List ℕ) × (rest : List ℕ) × (left ≡ prefix ++ rest)
+    × Spells next prefix × ¬ (Takes atoms next))
 
 -- the kind of a wrong atom, by how many atoms of the message stand before it
 abbrev pub kind_at : ℕ → FrameKind
@@ -208,8 +208,8 @@ IsWrongOf kind bytes = (atoms : List AtomValue) × (left : List ℕ) × Stops by
 abbrev pub IsFault : ℕ → List ℕ → FrameKind → Type 0
 IsFault most bytes kinds.Short = (atoms : List AtomValue) × (left : List ℕ) × Stops bytes atoms left
     × IsShort left
-IsFault most bytes kinds.TooLarge = (m : ValueMsg) × (front : List ℕ) × (rest : List ℕ)
-    × (bytes ≡ front ++ rest) × IsMessage m front × (most < size_of m.value)
+IsFault most bytes kinds.TooLarge = (m : ValueMsg) × (prefix : List ℕ) × (rest : List ℕ)
+    × (bytes ≡ prefix ++ rest) × IsMessage m prefix × (most < size_of m.value)
 IsFault most bytes kinds.NotArray4 = IsWrongOf kinds.NotArray4 bytes
 IsFault most bytes kinds.BadId = IsWrongOf kinds.BadId bytes
 IsFault most bytes kinds.BadTime = IsWrongOf kinds.BadTime bytes
@@ -220,8 +220,8 @@ IsFault most bytes kinds.BadValue = IsWrongOf kinds.BadValue bytes
 -- none. A fault stands at the first byte of its message
 abbrev pub Means : ℕ → List ℕ → List ValueMsg → Option FrameFault → Type 0
 Means most bytes ms None = IsFrame most ms bytes
-Means most bytes ms (Some fault) = (front : List ℕ) × (rest : List ℕ) × (bytes ≡ front ++ rest)
-    × IsFrame most ms front × (fault.at ≡ length front) × (rest ≢ []) × IsFault most rest fault.kind
+Means most bytes ms (Some fault) = (prefix : List ℕ) × (rest : List ℕ) × (bytes ≡ prefix ++ rest)
+    × IsFrame most ms prefix × (fault.at ≡ length prefix) × (rest ≢ []) × IsFault most rest fault.kind
 
 -- ---- what is written
 

@@ -1,5 +1,6 @@
 -- Reading one message from left to right, step by step, as the reader does.
--- That they stop and go on where the grammar says is shown in proofs/Messages.antt, and is what the reader's contract rests on.
+-- That they stop and go on where the grammar says is shown in proofs/Messages.antt, and is what the
+-- reader's contract rests on.
 use Rattle.std.specs.Prelude.{◌≡◌, ℕ, zero, suc, ◌-◌, ◌^◌, pos, Bool, true, false, nat_lt, ◌==◌, List, [], ◌∷◌, drop, Result, Ok, Err, IsOkAnd, if◌then◌else◌}
 use Rattle.nt_msgpack.specs.Atoms.{AtomValue, int, array_head}
 use Rattle.nt_msgpack.specs.Reading.{Reading, got, short, bad, atom_at}
@@ -11,7 +12,7 @@ use Rattle.nt_frames.specs.declared.error.ReadError.TheVariants as errors
 use Rattle.nt_values.specs.Types.{value_number}
 use Rattle.nt_frames.specs.Frames.{is_i64, is_known, is_single, may_stand, atoms_of, Stand}
 
--- ---- steps, each of which gives something and what is left behind it, or stops with a kind of fault
+-- ---- steps, each of which gives something and what is left after it, or stops with a kind of fault
 
 abbrev pub Step : Type 0 → Type 0
 Step A = Result (A × List ℕ) FrameKind

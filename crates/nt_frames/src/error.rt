@@ -7,7 +7,7 @@ use crate::message::FrameKind;
 use std::alloc::AllocError;
 
 /// Why a step of reading gave nothing.
-#[derive(Clone, Copy, Debug, PartialEq, Eq)]
+#[derive(Clone, Copy)]
 pub enum ReadError {
     /// Want of memory.
     Memory,

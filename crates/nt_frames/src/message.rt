@@ -7,7 +7,7 @@ use std::alloc::{AllocError, Global};
 
 /// A message of a frame (NetworkTables 4.1, binary frames): a value of a topic. The id is that of
 /// the topic or of its publisher, and the time is in microseconds.
-#[derive(Debug, Drop)]
+#[derive(Drop)]
 pub struct ValueMsg {
     pub id: i64,
     pub time: u64,
@@ -46,7 +46,7 @@ pub enum FrameKind {
     TooLarge,
 }
 
-/// A fault of a frame, and its place: how many bytes stand before the message that is at fault.
+/// A fault of a frame, and its offset: how many bytes stand before the message that is at fault.
 #[derive(Clone, Copy, Debug, PartialEq, Eq)]
 pub struct FrameFault {
     pub at: u64,
@@ -54,7 +54,7 @@ pub struct FrameFault {
 }
 
 /// What a frame was read as: its messages up to the first fault, and that fault.
-#[derive(Debug, Drop)]
+#[derive(Drop)]
 pub struct FrameRead {
     pub messages: Vec<ValueMsg>,
     pub fault: Option<FrameFault>,

@@ -17,7 +17,7 @@ use nt_msgpack::{Atom, AtomRead, read_atom};
 use nt_values::{Bytes, ListOf, Text, Value};
 use std::alloc::{AllocError, Global};
 
-/// The next atom, whatever it is, and what is left behind it. The kind is for bytes that are none.
+/// The next atom, whatever it is, and what is left after it. The kind is for bytes that are none.
 #[inline(always)]
 #[tactic(auto, unfolding(crate::specs::Reading::atom_if))]
 fn atom_of(kind: FrameKind, bytes: &[u8]) -> Result<(Atom<'_>, &[u8]), ReadError>
@@ -36,7 +36,7 @@ fn atom_of(kind: FrameKind, bytes: &[u8]) -> Result<(Atom<'_>, &[u8]), ReadError
     }
 }
 
-/// The head of a message, and what is left behind it.
+/// The head of a message, and what is left after it.
 fn head_of(bytes: &[u8]) -> Result<&[u8], ReadError>
     ensures { Gives (λ x. (array_head 4, x.now)) result (atom_if NotArray4 is_four bytes.now) }
 {
@@ -46,7 +46,7 @@ fn head_of(bytes: &[u8]) -> Result<&[u8], ReadError>
     }
 }
 
-/// The id of a message, and what is left behind it.
+/// The id of a message, and what is left after it.
 fn id_of(bytes: &[u8]) -> Result<(i64, &[u8]), ReadError>
     ensures reads { Gives (λ x. (int x.0, x.1.now)) result (atom_if BadId is_id bytes.now) }
 {
@@ -59,7 +59,7 @@ fn id_of(bytes: &[u8]) -> Result<(i64, &[u8]), ReadError>
     Err(ReadError::Fault(FrameKind::BadId))
 }
 
-/// The timestamp of a message, and what is left behind it.
+/// The timestamp of a message, and what is left after it.
 fn time_of(bytes: &[u8]) -> Result<(u64, &[u8]), ReadError>
     ensures reads { Gives (λ x. (int (pos x.0), x.1.now))
         result (atom_if BadTime is_time bytes.now) }
@@ -74,7 +74,7 @@ fn time_of(bytes: &[u8]) -> Result<(u64, &[u8]), ReadError>
     Err(ReadError::Fault(FrameKind::BadTime))
 }
 
-/// The data type number of a message, and what is left behind it.
+/// The data type number of a message, and what is left after it.
 fn type_of(bytes: &[u8]) -> Result<(u8, &[u8]), ReadError>
     ensures reads { Gives (λ x. (int (pos x.0), x.1.now))
         result (atom_if BadType is_type bytes.now) }
@@ -90,7 +90,7 @@ fn type_of(bytes: &[u8]) -> Result<(u8, &[u8]), ReadError>
     Err(ReadError::Fault(FrameKind::BadType))
 }
 
-/// An element of a list or a single value, and what is left behind it.
+/// An element of a list or a single value, and what is left after it.
 fn element_of<T: Element>(alloc: Global, bytes: &[u8]) -> Result<(T, &[u8]), ReadError>
     ensures reads { Matches (λ x y. T.stands x.0 y.0 × (y.1 ≡ x.1.now))
         result (atom_if BadValue (may_stand T.number) bytes.now) }
@@ -102,7 +102,7 @@ fn element_of<T: Element>(alloc: Global, bytes: &[u8]) -> Result<(T, &[u8]), Rea
     }
 }
 
-/// A single value, and what is left behind it.
+/// A single value, and what is left after it.
 #[tactic(auto, unfolding(crate::specs::Reading::single_at))]
 fn single_of<T: Element>(alloc: Global, bytes: &[u8]) -> Result<(T, &[u8]), ReadError>
     ensures { Matches (λ x y. One T.stands x.0 y.0 × (y.1 ≡ x.1.now))
@@ -111,7 +111,7 @@ fn single_of<T: Element>(alloc: Global, bytes: &[u8]) -> Result<(T, &[u8]), Read
     element_of(alloc, bytes)
 }
 
-/// The head of an array, and what is left behind it.
+/// The head of an array, and what is left after it.
 fn array_head_of(bytes: &[u8]) -> Result<(u32, &[u8]), ReadError>
     ensures reads { Gives (λ x. (array_head x.0, x.1.now))
         result (atom_if BadValue is_array_head bytes.now) }
@@ -122,7 +122,7 @@ fn array_head_of(bytes: &[u8]) -> Result<(u32, &[u8]), ReadError>
     }
 }
 
-/// So many elements, and what is left behind them. Room is taken only for elements that were read.
+/// So many elements, and what is left after them. Room is taken only for elements that were read.
 fn elements_of<T: Element>(
     alloc: Global,
     count: u32,
@@ -134,14 +134,14 @@ fn elements_of<T: Element>(
     let mut rest = bytes;
     let mut list = ListOf::empty(alloc);
     for i in 0..count {
-        let (value, behind) = element_of(alloc, rest)?;
+        let (value, after) = element_of(alloc, rest)?;
         list.push(value)?;
-        rest = behind;
+        rest = after;
     }
     Ok((list, rest))
 }
 
-/// A list, and what is left behind it.
+/// A list, and what is left after it.
 #[tactic(auto, unfolding(crate::specs::Reading::array_at))]
 fn list_of<T: Element>(alloc: Global, bytes: &[u8]) -> Result<(ListOf<T>, &[u8]), ReadError>
     ensures { Matches (λ x y. Each T.stands x.0 y.0 × (y.1 ≡ x.1.now))
@@ -151,7 +151,7 @@ fn list_of<T: Element>(alloc: Global, bytes: &[u8]) -> Result<(ListOf<T>, &[u8])
     elements_of(alloc, count, rest)
 }
 
-/// A value of a data type that isn't an array, and what is left behind it.
+/// A value of a data type that isn't an array, and what is left after it.
 fn single_value_of(alloc: Global, number: u8, bytes: &[u8]) -> Result<(Value, &[u8]), ReadError>
     requires { is_single number ≡ true }
     ensures { Matches (λ x y. (value_number x.0 ≡ number) × Stand x.0 y.0 × (y.1 ≡ x.1.now))
@@ -185,7 +185,7 @@ fn single_value_of(alloc: Global, number: u8, bytes: &[u8]) -> Result<(Value, &[
     }
 }
 
-/// A value of an array's data type, and what is left behind it.
+/// A value of an array's data type, and what is left after it.
 fn list_value_of(alloc: Global, number: u8, bytes: &[u8]) -> Result<(Value, &[u8]), ReadError>
     requires array { is_single number ≡ false }
     requires known { is_known number ≡ true }
@@ -216,7 +216,7 @@ fn list_value_of(alloc: Global, number: u8, bytes: &[u8]) -> Result<(Value, &[u8
     }
 }
 
-/// A message, and what is left behind it, whatever the size of its value.
+/// A message, and what is left after it, whatever the size of its value.
 #[tactic(auto, unfolding(crate::specs::Reading::message_at, crate::specs::Reading::wire_at))]
 fn message_of(alloc: Global, bytes: &[u8]) -> Result<(ValueMsg, &[u8]), ReadError>
     ensures { Matches (λ x y. Tells x.0 y.0 × (y.1 ≡ x.1.now)) result (message_at bytes.now) }
@@ -233,11 +233,11 @@ fn message_of(alloc: Global, bytes: &[u8]) -> Result<(ValueMsg, &[u8]), ReadErro
     Ok((ValueMsg { id, time, value }, rest))
 }
 
-/// A message whose value has at most this size, and what is left behind it.
+/// A message whose value has at most this size, and what is left after it.
 fn small_message_of(alloc: Global, bytes: &[u8], most: u64) -> Result<(ValueMsg, &[u8]), ReadError>
     requires { bytes.now ≢ [] }
-    ensures message { IfOk result (λ x. (front : List ℕ) × (bytes.now ≡ front ++ x.1.now)
-        × IsMessage x.0 front × (size_of x.0.value ≤ most)) }
+    ensures message { IfOk result (λ x. (prefix : List ℕ) × (bytes.now ≡ prefix ++ x.1.now)
+        × IsMessage x.0 prefix × (size_of x.0.value ≤ most)) }
     ensures fault { IfErr result (IfFault (IsFault most bytes.now)) }
 {
     let (message, rest) = message_of(alloc, bytes)?;
@@ -260,9 +260,9 @@ pub fn read_frame(alloc: Global, bytes: &[u8], most: u64) -> Result<FrameRead, A
     let mut rest = bytes;
     while !rest.is_empty() {
         match small_message_of(alloc, rest, most) {
-            Ok((message, behind)) => {
+            Ok((message, after)) => {
                 messages.push(message)?;
-                rest = behind;
+                rest = after;
             }
             Err(ReadError::Memory) => return Err(AllocError),
             Err(ReadError::Fault(kind)) => {

@@ -38,3 +38,10 @@ pub record Aside : Type 0 where
 -- of an object that has one of the two traits alone
 abbrev pub empty_aside : Aside
 empty_aside = record { bytes = None; faults = 0 }
+
+-- a later state of an object, of one of whose traits this is the count of faults and the rest: the count hasn't fallen, it
+-- stays at its end, and the rest is as before
+pub record IsLater {S : Type 0} (count : S → ℕ) (rest : S → Aside) (before now : S) : Type 0 where
+  pub later : count before ≤ count now
+  pub end : StaysAtEnd (count before) (count now)
+  pub aside : rest now ≡ rest before

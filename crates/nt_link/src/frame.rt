@@ -6,7 +6,7 @@ use nt_values::{Bytes, Text};
 use std::alloc::{AllocError, Global};
 
 /// A whole message of a WebSocket (RFC 6455, "Data Frames").
-#[derive(Debug, Drop)]
+#[derive(Drop)]
 pub enum Frame {
     Text(Text),
     Binary(Bytes),

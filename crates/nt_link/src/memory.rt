@@ -12,7 +12,7 @@ use std::alloc::Global;
 use std::marker::Model;
 
 /// The numbers of the calls that fail, and how many calls there were and failed.
-#[derive(Debug, Drop)]
+#[derive(Drop)]
 struct Calls {
     fails: Vec<u64>,
     made: u64,
@@ -57,7 +57,7 @@ impl Calls {
 }
 
 /// Bytes to be read, of which some calls fail.
-#[derive(Debug, Drop)]
+#[derive(Drop)]
 pub struct MemSource {
     bytes: Vec<u8>,
     at: usize,
@@ -132,7 +132,7 @@ impl Source for MemSource {
 }
 
 /// Bytes that were written, of which some calls fail.
-#[derive(Debug, Drop)]
+#[derive(Drop)]
 pub struct MemSink {
     bytes: Vec<u8>,
     calls: Calls,

@@ -43,8 +43,6 @@ pub trait Sink {
 pub struct Stopped {
     /// How many of the bytes were taken.
     pub written: u64,
-    /// Whether the last write took nothing, in place of failing.
-    pub silent: bool,
 }
 
 /// Writes all of the bytes, in as many calls as that takes. With no bytes there is no call.
@@ -66,19 +64,8 @@ pub fn write_all<S: Sink>(sink: &mut S, bytes: &[u8]) -> Result<(), Stopped>
     while at < bytes.len() {
         let written = at as u64;
         match sink.write(&bytes[at..]) {
-            Ok(0) => {
-                return Err(Stopped {
-                    written,
-                    silent: true,
-                });
-            }
+            Ok(0) | Err(Failed) => return Err(Stopped { written }),
             Ok(count) => at += count,
-            Err(Failed) => {
-                return Err(Stopped {
-                    written,
-                    silent: false,
-                });
-            }
         }
     }
     Ok(())

@@ -71,10 +71,7 @@ fn a_folder_is_no_file(rt: HostRuntime) -> Result<(), Fail> {
 #[test]
 fn memory_sink_fails_as_listed(rt: HostRuntime) -> Result<(), Fail> {
     let mut sink = MemSink::new(rt.alloc(), Vec::from_slice(rt.alloc(), &[1])?);
-    let stopped = Stopped {
-        written: 0,
-        silent: false,
-    };
+    let stopped = Stopped { written: 0 };
     for (call, answer) in [Ok(()), Err(stopped), Ok(())].into_iter().enumerate() {
         assert_eq!(rt; write_all(&mut sink, b"ab"), answer, "call {call}");
     }
@@ -124,12 +121,9 @@ impl Sink for Narrow {
 }
 
 #[test]
-fn a_sink_that_takes_nothing_stops_in_silence(rt: HostRuntime) {
+fn a_sink_that_takes_nothing_stops_the_writing(rt: HostRuntime) {
     let mut sink = Narrow { room: 7, faults: 0 };
     assert_eq!(rt; write_all(&mut sink, b"abcd"), Ok(()));
-    let stopped = Stopped {
-        written: 3,
-        silent: true,
-    };
+    let stopped = Stopped { written: 3 };
     assert_eq!(rt; write_all(&mut sink, b"efgh"), Err(stopped));
 }

@@ -4,7 +4,7 @@ use Rattle.std.specs.Int.{w16, w32, to_be_bytes}
 use Rattle.std.proofs.lemmas.Grind.{flat_map-append}
 use Rattle.nt_msgpack.specs.Atoms.{text, boolean, map_head, shortest, head_spelling}
 use Rattle.nt_subs.specs.declared.sub.Options.{Options}
-use Rattle.nt_meta.specs.Elements.{spelled, option_name, option_pairs, options_atoms, true_options}
+use Rattle.nt_rules.specs.meta.Elements.{spelled, option_name, option_pairs, options_atoms, true_options}
 
 -- a head has a byte at least
 head-some : (n alone two four : ℕ) → 0 < length (head_spelling n alone two four)

@@ -1,7 +1,5 @@
 pub mod Appends
 pub mod Packing
+pub mod Rows
 pub mod Names
 pub mod Metas
-pub mod Fronts
-pub mod InOrder
-pub mod Apart

@@ -2,11 +2,12 @@
 use Rattle.std.proofs.Common.{◌≡◌, ℕ, ◌+◌, ◌^◌, ◌<◌, ◌≤◌, Bool, true, false, List, [], ◌∷◌, ◌++◌, length, map, drop, get_or, Some, option_map, refl, ap, sym, ◌∙◌, subst, append_assoc, add-one, suc, drop-cons, arith, lit<, cond, IfSome}
 use Rattle.std.specs.List.{find, All, AllByRecursion}
 use Rattle.std.proofs.lemmas.List.Elements.{All-head, All-rest}
-use Rattle.nt_meta.specs.declared.roster.Roster.{Roster}
-use Rattle.nt_meta.specs.declared.meta.MetaNow.{MetaNow}
+use Rattle.nt_rules.specs.Limits.{last_id}
+use Rattle.nt_rules.specs.declared.roster.Roster.{Roster}
+use Rattle.nt_rules.specs.declared.meta.MetaNow.{MetaNow}
 use Rattle.nt_meta.specs.declared.topic.MetaTopic.{MetaTopic}
 use Rattle.nt_meta.specs.declared.topic.MetaTopic.TheVariants.{TopicPub, TopicSub, ClientPub, ClientSub, Clients, ServerPub, ServerSub}
-use Rattle.nt_meta.specs.Meta.{IsNumbered, last_number, topic_pub, topic_sub, client_pub, client_sub, metas, named_in, is_named}
+use Rattle.nt_rules.specs.meta.Meta.{IsNumbered, topic_pub, topic_sub, client_pub, client_sub, metas, named_in, is_named}
 use Rattle.nt_meta.specs.Topics.{meta_of, number_of}
 
 -- one more of what is made of each of some rows
@@ -36,14 +37,14 @@ ids-of-rows f P small (x ∷ xs) all ys h =
 
 ids-of-metas : (r : Roster) → IsNumbered r → AllByRecursion IsId (metas r)
 ids-of-metas r n =
-    ids-of-rows (topic_pub r) (λ t. t.id ≤ last_number)
-    (λ t (h : t.id ≤ last_number). omega arith) r.topics n.topics _
-    (ids-of-rows (topic_sub r) (λ t. t.id ≤ last_number)
-    (λ t (h : t.id ≤ last_number). omega arith) r.topics n.topics _
-    (ids-of-rows client_pub (λ c. c.conn ≤ last_number)
-    (λ c (h : c.conn ≤ last_number). omega arith) r.conns n.conns _
-    (ids-of-rows client_sub (λ c. c.conn ≤ last_number)
-    (λ c (h : c.conn ≤ last_number). omega arith) r.conns n.conns _
+    ids-of-rows (topic_pub r) (λ t. t.id ≤ last_id)
+    (λ t (h : t.id ≤ last_id). omega arith) r.topics n.topics _
+    (ids-of-rows (topic_sub r) (λ t. t.id ≤ last_id)
+    (λ t (h : t.id ≤ last_id). omega arith) r.topics n.topics _
+    (ids-of-rows client_pub (λ c. c.conn ≤ last_id)
+    (λ c (h : c.conn ≤ last_id). omega arith) r.conns n.conns _
+    (ids-of-rows client_sub (λ c. c.conn ≤ last_id)
+    (λ c (h : c.conn ≤ last_id). omega arith) r.conns n.conns _
     (lit< tt, (lit< tt, (lit< tt, tt))))))
 
 found-id : (test : MetaNow → Bool) (ms : List MetaNow) → AllByRecursion IsId ms → IfSome (find test ms) IsId

@@ -5,11 +5,11 @@ use Rattle.std.specs.List.{find}
 use Rattle.std.proofs.lemmas.List.{append_cancel_left}
 use Rattle.std.proofs.lemmas.List.Folds.{find-append}
 use Rattle.std.proofs.lemmas.Slice.Eq.{bytes_eq-Decides}
-use Rattle.nt_meta.specs.declared.roster.ConnRow.{ConnRow}
-use Rattle.nt_meta.specs.declared.roster.LifeRow.{LifeRow}
-use Rattle.nt_meta.specs.declared.roster.Roster.{Roster}
-use Rattle.nt_meta.specs.declared.meta.MetaNow.{MetaNow}
-use Rattle.nt_meta.specs.Meta.{topic_pub, topic_sub, client_pub, client_sub, clients, server_pub, server_sub, is_named, named_in}
+use Rattle.nt_rules.specs.declared.roster.ConnRow.{ConnRow}
+use Rattle.nt_rules.specs.declared.roster.LifeRow.{LifeRow}
+use Rattle.nt_rules.specs.declared.roster.Roster.{Roster}
+use Rattle.nt_rules.specs.declared.meta.MetaNow.{MetaNow}
+use Rattle.nt_rules.specs.meta.Meta.{topic_pub, topic_sub, client_pub, client_sub, clients, server_pub, server_sub, is_named, named_in}
 
 same-tests : (a b : Bool) → (a ≡ true → b ≡ true) → (b ≡ true → a ≡ true) → a ≡ b
 same-tests true b f g = sym (f refl)

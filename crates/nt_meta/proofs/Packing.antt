@@ -3,8 +3,10 @@ use Rattle.std.proofs.Common.{◌≡◌, ℕ, ◌+◌, ◌<◌, ◌≤◌, Bool,
 use Rattle.std.proofs.lemmas.List.{drop_all}
 use Rattle.std.specs.List.{flat_map}
 use Rattle.nt_msgpack.specs.Atoms.{AtomValue, array_head, shortest}
-use Rattle.nt_meta.specs.Elements.{spelled}
-use Rattle.nt_meta.specs.Packing.{most_bytes, fitting, array_bytes, Packed, none_packed, with_element, with_elements, packed_bytes}
+use Rattle.nt_rules.specs.Limits.{most_bytes}
+use Rattle.nt_rules.specs.meta.Elements.{spelled}
+use Rattle.nt_rules.specs.meta.Packing.{fitting, array_bytes}
+use Rattle.nt_meta.specs.Packing.{Packed, none_packed, with_element, with_elements, packed_bytes}
 
 -- nothing is kept behind an element that was cut off
 full-stays : (count : ℕ) (bytes : List ℕ) (xs : List (List AtomValue))

@@ -1,6 +1,3 @@
-pub mod Elements
 pub mod Packing
-pub mod Order
-pub mod Meta
+pub mod Rows
 pub mod Topics
-pub mod Rosters

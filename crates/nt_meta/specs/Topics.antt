@@ -1,10 +1,10 @@
 -- Meta topics as the code tells them apart, and what each stands for.
 use Rattle.std.specs.Prelude.{ℕ}
-use Rattle.nt_meta.specs.declared.meta.MetaNow.{MetaNow}
-use Rattle.nt_meta.specs.declared.roster.Roster.{Roster}
+use Rattle.nt_rules.specs.declared.meta.MetaNow.{MetaNow}
+use Rattle.nt_rules.specs.declared.roster.Roster.{Roster}
 use Rattle.nt_meta.specs.declared.topic.MetaTopic.{MetaTopic}
 use Rattle.nt_meta.specs.declared.topic.MetaTopic.TheVariants.{TopicPub, TopicSub, ClientPub, ClientSub, Clients, ServerPub, ServerSub}
-use Rattle.nt_meta.specs.Meta.{topic_pub, topic_sub, client_pub, client_sub, clients, server_pub, server_sub, id_of}
+use Rattle.nt_rules.specs.meta.Meta.{topic_pub, topic_sub, client_pub, client_sub, clients, server_pub, server_sub, id_of}
 
 -- what a meta topic is now
 abbrev pub meta_of : Roster → MetaTopic → MetaNow

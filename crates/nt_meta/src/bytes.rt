@@ -2,12 +2,13 @@
 
 ghost use Rattle.std.specs.Prelude.{◌≡◌, [], map, filter, bytes_eq, IfOk};
 ghost use Rattle.nt_subs.specs.Wishes.{is_matched};
-ghost use Rattle.nt_meta.specs.Elements.{topic_publisher, topic_subscriber, publishers_of, subscribers_of};
-ghost use Rattle.nt_meta.specs.Packing.{with_elements, array_bytes};
+ghost use Rattle.nt_rules.specs.meta.Elements.{topic_publisher, topic_subscriber, publishers_of, subscribers_of};
+ghost use Rattle.nt_rules.specs.meta.Packing.{array_bytes};
+ghost use Rattle.nt_meta.specs.Packing.{with_elements};
 
 use crate::element::{Element, TopicPublisher, TopicSubscriber};
 use crate::list::Packed;
-use crate::roster::ConnRow;
+use nt_rules::ConnRow;
 use nt_values::Bytes;
 use std::alloc::{AllocError, Global};
 

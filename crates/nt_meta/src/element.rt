@@ -2,10 +2,10 @@
 
 ghost use Rattle.std.specs.Prelude.{◌≡◌, ◌++◌, ◌<◌, List, length, OnOk};
 ghost use Rattle.nt_msgpack.specs.Atoms.{AtomValue};
-ghost use Rattle.nt_meta.specs.Elements.{spelled};
+ghost use Rattle.nt_rules.specs.meta.Elements.{spelled};
 
 use crate::put::{put_int_member, put_map, put_names_member, put_options_member, put_text_member};
-use crate::roster::{ConnRow, PubRow, SubRow};
+use nt_rules::{ConnRow, PubRow, SubRow};
 use std::alloc::{AllocError, Global};
 
 /// An element of a list: a map (NetworkTables 4.1, "Server-Published Meta Topics").
@@ -21,7 +21,7 @@ pub trait Element {
 
 // A connection among all.
 impl Element for ConnRow {
-    ghost use Rattle.nt_meta.specs.Elements.{client_element};
+    ghost use Rattle.nt_rules.specs.meta.Elements.{client_element};
 
     ghost atoms = { client_element };
 
@@ -35,7 +35,7 @@ impl Element for ConnRow {
 
 // A publisher among its connection's.
 impl Element for PubRow {
-    ghost use Rattle.nt_meta.specs.Elements.{publisher_element};
+    ghost use Rattle.nt_rules.specs.meta.Elements.{publisher_element};
 
     ghost atoms = { publisher_element };
 
@@ -48,7 +48,7 @@ impl Element for PubRow {
 
 // A subscription among its connection's.
 impl Element for SubRow {
-    ghost use Rattle.nt_meta.specs.Elements.{subscription_element};
+    ghost use Rattle.nt_rules.specs.meta.Elements.{subscription_element};
 
     ghost atoms = { subscription_element };
 
@@ -68,7 +68,7 @@ pub struct TopicPublisher<'a> {
 }
 
 impl Element for TopicPublisher<'_> {
-    ghost use Rattle.nt_meta.specs.Elements.{topic_publisher};
+    ghost use Rattle.nt_rules.specs.meta.Elements.{topic_publisher};
 
     ghost atoms = { λ e. topic_publisher e.client.now e.row.now };
 
@@ -87,7 +87,7 @@ pub struct TopicSubscriber<'a> {
 }
 
 impl Element for TopicSubscriber<'_> {
-    ghost use Rattle.nt_meta.specs.Elements.{topic_subscriber};
+    ghost use Rattle.nt_rules.specs.meta.Elements.{topic_subscriber};
 
     ghost atoms = { λ e. topic_subscriber e.client.now e.row.now };
 

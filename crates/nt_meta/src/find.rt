@@ -2,12 +2,12 @@
 
 ghost use Rattle.std.specs.Prelude.{◌≡◌, ◌++◌, [], ◌∷◌, bytes_eq, option_copied, option_map};
 ghost use Rattle.std.specs.List.{find};
-ghost use Rattle.nt_meta.specs.Meta.{named_in, is_named, clients, server_pub, server_sub};
-ghost use Rattle.nt_meta.specs.declared.roster.Roster.{Roster};
+ghost use Rattle.nt_rules.specs.meta.Meta.{named_in, is_named, clients, server_pub, server_sub};
+ghost use Rattle.nt_rules.specs.declared.roster.Roster.{Roster};
 ghost use Rattle.nt_meta.specs.Topics.{meta_of};
 
-use crate::roster::{ConnRow, LifeRow, Roster};
 use crate::topic::MetaTopic;
+use nt_rules::{ConnRow, LifeRow, Roster};
 
 /// The meta topic of this name that lives.
 pub fn meta_topic<'a>(name: &str, roster: &'a Roster) -> Option<MetaTopic<'a>>

@@ -1,21 +1,20 @@
 //! Arrays of elements, cut where they get too long.
 
 ghost use Rattle.std.specs.Prelude.{◌≡◌, map, IfOk};
-ghost use Rattle.nt_meta.specs.Packing.{none_packed, with_element, with_elements, packed_bytes, array_bytes};
-ghost use Rattle.nt_meta.specs.Elements.{spelled};
+ghost use Rattle.nt_rules.specs.meta.Packing.{array_bytes};
+ghost use Rattle.nt_meta.specs.Packing.{none_packed, with_element, with_elements, packed_bytes};
+ghost use Rattle.nt_rules.specs.meta.Elements.{spelled};
 
 use crate::element::Element;
 use nt_msgpack::{Atom, put_atom};
+use nt_rules::MOST_BYTES;
 use nt_values::Bytes;
 use std::alloc::{AllocError, Global};
 use std::marker::Model;
 
-/// The most bytes of the elements of one array.
-const MOST_BYTES: usize = 1_048_576;
-
 /// An array that is written element by element. From the first element on with which the bytes get
 /// too long, none is kept.
-#[derive(Debug, Drop)]
+#[derive(Drop)]
 pub struct Packed {
     count: u32,
     bytes: Vec<u8>,
@@ -24,6 +23,7 @@ pub struct Packed {
 
 impl Model for Packed {
     ghost use Rattle.std.specs.Prelude.{◌≤◌, length};
+    ghost use Rattle.nt_rules.specs.Limits.{most_bytes};
     ghost use Rattle.nt_meta.specs.Packing as packing;
 
     ghost Value = { packing.Packed };
@@ -31,7 +31,7 @@ impl Model for Packed {
     ghost view = { λ p. record { count = p.count; bytes = p.bytes.items; is_full = p.is_full } };
 
     ghost invariant = { λ p. (p.count ≤ length p.bytes.items)
-        × (length p.bytes.items ≤ packing.most_bytes) };
+        × (length p.bytes.items ≤ most_bytes) };
 }
 
 impl Packed {

@@ -1,26 +1,14 @@
 //! The meta topics.
 
 ghost use Rattle.std.specs.Prelude.{◌≡◌, ◌++◌, map, option_map, IfOk, OnOk};
-ghost use Rattle.nt_meta.specs.Meta.{IsNumbered, metas, named_in, meta_bytes, meta_number, topic_pub, topic_sub, client_pub, client_sub};
+ghost use Rattle.nt_rules.specs.meta.Meta.{IsNumbered, metas, named_in, meta_bytes, meta_number, topic_pub, topic_sub, client_pub, client_sub};
 
 use crate::find::meta_topic;
 use crate::order::ordered_roster;
-use crate::roster::Roster;
 use crate::topic::MetaTopic;
-use nt_topics::Name;
-use nt_values::{Bytes, ListOf};
+use nt_rules::{MetaNow, Metas, Roster};
+use nt_values::Bytes;
 use std::alloc::{AllocError, Global};
-
-/// A meta topic that lives, and its value.
-#[derive(Debug, Drop)]
-pub struct MetaNow {
-    pub id: u32,
-    pub name: Name,
-    pub bytes: Bytes,
-}
-
-/// Meta topics.
-pub type Metas = ListOf<MetaNow>;
 
 /// The value of the meta topic of this name, and None exactly where none lives. Its rows are told
 /// by rising number of the connection and then by rising uid, in whatever order the roster has

@@ -2,7 +2,7 @@
 
 ghost use Rattle.std.specs.Prelude.{◌≡◌, [], ◌∷◌, ◌++◌, ◌<◌, ◌^◌, length, IfOk, OnOk};
 ghost use Rattle.nt_msgpack.specs.Atoms.{int, text, map_head, shortest};
-ghost use Rattle.nt_meta.specs.Elements.{spelled, option_name, option_pairs, options_atoms, texts_atoms, true_options};
+ghost use Rattle.nt_rules.specs.meta.Elements.{spelled, option_name, option_pairs, options_atoms, texts_atoms, true_options};
 
 use nt_msgpack::{Atom, put_atom};
 use nt_subs::{Names, Options};

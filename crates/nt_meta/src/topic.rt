@@ -1,12 +1,11 @@
 //! The kinds of meta topics.
 
 ghost use Rattle.std.specs.Prelude.{◌≡◌, ◌+◌, ◌<◌, ◌^◌, ◌++◌, IfOk};
-ghost use Rattle.nt_meta.specs.declared.roster.Roster.{Roster};
+ghost use Rattle.nt_rules.specs.declared.roster.Roster.{Roster};
 ghost use Rattle.nt_meta.specs.Topics.{number_of, meta_of};
 
 use crate::bytes::{array_of, empty_array, publishers, subscribers};
-use crate::meta::MetaNow;
-use crate::roster::{ConnRow, LifeRow, Roster};
+use nt_rules::{ConnRow, LifeRow, MetaNow, Roster};
 use nt_topics::Name;
 use nt_values::{Bytes, Text};
 use std::alloc::{AllocError, Global};

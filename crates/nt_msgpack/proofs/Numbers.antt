@@ -14,7 +14,7 @@ pub length-bytes : (k n : ℕ) → length (bytes_high_first k n) ≡ k
 length-bytes zero n = refl
 length-bytes (suc k) n = ap suc (length-bytes k n)
 
--- one more byte in front of the low k bytes
+-- one more byte before the low k bytes
 byte_on : (k n : ℕ) → byte_at k n * 256 ^ k + n % 256 ^ k ≡ n % 256 ^ suc k
 byte_on zero n = omega arith
 byte_on (suc k) n =
@@ -39,7 +39,8 @@ pub number-w64 : (n : ℕ) → n < 2 ^ 64 → number (to_be_bytes w64 n) ≡ n
 number-w64 n h = number-bytes 8 n ∙ omega arith
 
 -- bytes spell -1 - n in two's complement where they spell that much below the end of their width
-pub signed_number-negative : (bs : List ℕ) (n end : ℕ) → 256 ^ length bs ≡ end → number bs + n + 1 ≡ end → 2 * n + 2 ≤ end
+pub signed_number-negative : (bs : List ℕ) (n end : ℕ) → 256 ^ length bs ≡ end → number bs + n + 1 ≡ end
+    → 2 * n + 2 ≤ end
     → signed_number bs ≡ negsuc n
 signed_number-negative bs n end width is low =
     let test : ltb (2 * number bs) (256 ^ length bs) ≡ false = le-ltb _ _ (omega arith) in

@@ -7,12 +7,17 @@ use Rattle.nt_msgpack.specs.Atoms.{AtomValue, int, boolean, float32, float64, te
 use Rattle.nt_msgpack.proofs.Numbers.{number-w16, number-w32, number-w64, signed_number-negative}
 
 -- a first byte, and what fills its format
-spelled : (first : ℕ) (format : Format) (atom : AtomValue) (bytes : List ℕ) → format_of first ≡ Some format → Fills format atom bytes → IsText atom
+spelled : (first : ℕ) (format : Format) (atom : AtomValue) (bytes : List ℕ) → format_of first ≡ Some format
+    → Fills format atom bytes → IsText atom
     → Spells atom (first ∷ bytes)
-spelled first format atom bytes is fills utf8 = record { form = record { first = first; behind = bytes; format = format; whole = refl; format_is = is; fills = fills }; utf8 = utf8 }
+spelled first format atom bytes is fills utf8 = record {
+  form = record { first = first; after = bytes; format = format; whole = refl; format_is = is; fills = fills };
+  utf8 = utf8;
+}
 
 -- a first byte that spells an atom alone
-spelled-alone : (first : ℕ) (atom : AtomValue) → format_of first ≡ Some (alone atom) → IsText atom → Spells atom (first ∷ [])
+spelled-alone : (first : ℕ) (atom : AtomValue) → format_of first ≡ Some (alone atom) → IsText atom
+    → Spells atom (first ∷ [])
 spelled-alone first atom is utf8 = spelled first (alone atom) atom [] is (refl, refl) utf8
 
 -- ---- first bytes of ranges
@@ -31,13 +36,24 @@ fixarray : (n : ℕ) → n < 16 → format_of (0x90 + n) ≡ Some (alone (array_
 unfolding format_of
 fixarray n h =
     let same : 0x90 + n - 0x90 ≡ n = omega arith in
-    rw (le-ltb (0x90 + n) 0x80 (omega arith), le-ltb (0x90 + n) 0x90 (omega arith), lt-ltb (0x90 + n) 0xa0 (omega arith), same) refl
+    rw (
+      le-ltb (0x90 + n) 0x80 (omega arith),
+      le-ltb (0x90 + n) 0x90 (omega arith),
+      lt-ltb (0x90 + n) 0xa0 (omega arith),
+      same,
+    ) refl
 
 fixstr : (n : ℕ) → n < 32 → format_of (0xa0 + n) ≡ Some (fixed n text)
 unfolding format_of
 fixstr n h =
     let same : 0xa0 + n - 0xa0 ≡ n = omega arith in
-    rw (le-ltb (0xa0 + n) 0x80 (omega arith), le-ltb (0xa0 + n) 0x90 (omega arith), le-ltb (0xa0 + n) 0xa0 (omega arith), lt-ltb (0xa0 + n) 0xc0 (omega arith), same) refl
+    rw (
+      le-ltb (0xa0 + n) 0x80 (omega arith),
+      le-ltb (0xa0 + n) 0x90 (omega arith),
+      le-ltb (0xa0 + n) 0xa0 (omega arith),
+      lt-ltb (0xa0 + n) 0xc0 (omega arith),
+      same,
+    ) refl
 
 negative_fixint : (n : ℕ) → n < 32 → format_of (0xff - n) ≡ Some (alone (int (negsuc n)))
 unfolding format_of
@@ -72,19 +88,27 @@ unfolding shortest format_of
 unsigned-spelled n fits = elim (cases_lt n 0x80) [
   | inl a ↦ rw (lt-ltb n 0x80 a) (spelled-alone n (int (pos n)) (positive_fixint n a) tt)
   | inr a ↦ elim (cases_lt n 0x100) [
-    | inl b ↦ rw (le-ltb n 0x80 a, lt-ltb n 0x100 b) (spelled 0xcc _ (int (pos n)) (n ∷ []) refl (refl, ap (λ (m : ℕ). int (pos m)) (omega arith)) tt)
+    | inl b ↦ rw (le-ltb n 0x80 a, lt-ltb n 0x100 b)
+        (spelled 0xcc _ (int (pos n)) (n ∷ []) refl (refl, ap (λ (m : ℕ). int (pos m)) (omega arith)) tt)
     | inr b ↦ elim (cases_lt n 0x1_0000) [
-      | inl d ↦ rw (le-ltb n 0x80 a, le-ltb n 0x100 b, lt-ltb n 0x1_0000 d) (spelled 0xcd _ (int (pos n)) (to_be_bytes w16 n) refl (refl, ap (λ (m : ℕ). int (pos m)) (sym (number-w16 n d))) tt)
+      | inl d ↦ rw (le-ltb n 0x80 a, le-ltb n 0x100 b, lt-ltb n 0x1_0000 d)
+          (spelled 0xcd _ (int (pos n)) (to_be_bytes w16 n) refl
+          (refl, ap (λ (m : ℕ). int (pos m)) (sym (number-w16 n d))) tt)
       | inr d ↦ elim (cases_lt n 0x1_0000_0000) [
-        | inl e ↦ rw (le-ltb n 0x80 a, le-ltb n 0x100 b, le-ltb n 0x1_0000 d, lt-ltb n 0x1_0000_0000 e) (spelled 0xce _ (int (pos n)) (to_be_bytes w32 n) refl (refl, ap (λ (m : ℕ). int (pos m)) (sym (number-w32 n e))) tt)
-        | inr e ↦ rw (le-ltb n 0x80 a, le-ltb n 0x100 b, le-ltb n 0x1_0000 d, le-ltb n 0x1_0000_0000 e) (spelled 0xcf _ (int (pos n)) (to_be_bytes w64 n) refl (refl, ap (λ (m : ℕ). int (pos m)) (sym (number-w64 n fits))) tt)
+        | inl e ↦ rw (le-ltb n 0x80 a, le-ltb n 0x100 b, le-ltb n 0x1_0000 d, lt-ltb n 0x1_0000_0000 e)
+            (spelled 0xce _ (int (pos n)) (to_be_bytes w32 n) refl
+            (refl, ap (λ (m : ℕ). int (pos m)) (sym (number-w32 n e))) tt)
+        | inr e ↦ rw (le-ltb n 0x80 a, le-ltb n 0x100 b, le-ltb n 0x1_0000 d, le-ltb n 0x1_0000_0000 e)
+            (spelled 0xcf _ (int (pos n)) (to_be_bytes w64 n) refl
+            (refl, ap (λ (m : ℕ). int (pos m)) (sym (number-w64 n fits))) tt)
       ]
     ]
   ]
 ]
 
 -- bytes that spell -1 - n
-negative : (bs : List ℕ) (n end : ℕ) → 256 ^ length bs ≡ end → number bs + n + 1 ≡ end → 2 * n + 2 ≤ end → int (negsuc n) ≡ int (signed_number bs)
+negative : (bs : List ℕ) (n end : ℕ) → 256 ^ length bs ≡ end → number bs + n + 1 ≡ end → 2 * n + 2 ≤ end
+    → int (negsuc n) ≡ int (signed_number bs)
 negative bs n end width is low = ap int (sym (signed_number-negative bs n end width is low))
 
 signed-spelled : (n : ℕ) → n < 2 ^ 63 → Spells (int (negsuc n)) (shortest (int (negsuc n)))
@@ -92,21 +116,33 @@ unfolding shortest format_of
 signed-spelled n fits = elim (cases_lt n 32) [
   | inl a ↦ rw (lt-ltb n 32 a) (spelled-alone (0xff - n) (int (negsuc n)) (negative_fixint n a) tt)
   | inr a ↦ elim (cases_lt n 0x80) [
-    | inl b ↦ rw (le-ltb n 32 a, lt-ltb n 0x80 b) (spelled 0xd0 _ (int (negsuc n)) ((0xff - n) ∷ []) refl (refl, negative ((0xff - n) ∷ []) n 0x100 refl (omega arith) (omega arith)) tt)
+    | inl b ↦ rw (le-ltb n 32 a, lt-ltb n 0x80 b)
+        (spelled 0xd0 _ (int (negsuc n)) ((0xff - n) ∷ []) refl
+        (refl, negative ((0xff - n) ∷ []) n 0x100 refl (omega arith) (omega arith)) tt)
     | inr b ↦ elim (cases_lt n 0x8000) [
       | inl d ↦
           let bs : List ℕ = to_be_bytes w16 (0xffff - n) in
           let value : number bs ≡ 0xffff - n = number-w16 (0xffff - n) (omega arith) in
-          rw (le-ltb n 32 a, le-ltb n 0x80 b, lt-ltb n 0x8000 d) (spelled 0xd1 _ (int (negsuc n)) bs refl (refl, negative bs n 0x1_0000 refl (omega arith) (omega arith)) tt)
+          rw (le-ltb n 32 a, le-ltb n 0x80 b, lt-ltb n 0x8000 d)
+          (spelled 0xd1 _ (int (negsuc n)) bs refl (refl, negative bs n 0x1_0000 refl (omega arith) (omega arith))
+          tt)
       | inr d ↦ elim (cases_lt n 0x8000_0000) [
         | inl e ↦
             let bs : List ℕ = to_be_bytes w32 (0xffff_ffff - n) in
             let value : number bs ≡ 0xffff_ffff - n = number-w32 (0xffff_ffff - n) (omega arith) in
-            rw (le-ltb n 32 a, le-ltb n 0x80 b, le-ltb n 0x8000 d, lt-ltb n 0x8000_0000 e) (spelled 0xd2 _ (int (negsuc n)) bs refl (refl, negative bs n 0x1_0000_0000 refl (omega arith) (omega arith)) tt)
+            rw (le-ltb n 32 a, le-ltb n 0x80 b, le-ltb n 0x8000 d, lt-ltb n 0x8000_0000 e)
+            (spelled 0xd2 _ (int (negsuc n)) bs refl (
+              refl,
+              negative bs n 0x1_0000_0000 refl (omega arith) (omega arith),
+            ) tt)
         | inr e ↦
             let bs : List ℕ = to_be_bytes w64 (0xffff_ffff_ffff_ffff - n) in
             let value : number bs ≡ 0xffff_ffff_ffff_ffff - n = number-w64 (0xffff_ffff_ffff_ffff - n) (omega arith) in
-            rw (le-ltb n 32 a, le-ltb n 0x80 b, le-ltb n 0x8000 d, le-ltb n 0x8000_0000 e) (spelled 0xd3 _ (int (negsuc n)) bs refl (refl, negative bs n 0x1_0000_0000_0000_0000 refl (omega arith) (omega arith)) tt)
+            rw (le-ltb n 32 a, le-ltb n 0x80 b, le-ltb n 0x8000 d, le-ltb n 0x8000_0000 e)
+            (spelled 0xd3 _ (int (negsuc n)) bs refl (
+              refl,
+              negative bs n 0x1_0000_0000_0000_0000 refl (omega arith) (omega arith),
+            ) tt)
       ]
     ]
   ]
@@ -114,39 +150,50 @@ signed-spelled n fits = elim (cases_lt n 32) [
 
 -- ---- texts, bytes and heads
 
--- a body behind its length in 1, 2 or 4 bytes
+-- a body after its length in 1, 2 or 4 bytes
 counted-spelled : (make : List ℕ → AtomValue) (body : List ℕ) (in_one in_two in_four : ℕ)
-    → format_of in_one ≡ Some (counted 1 make) → format_of in_two ≡ Some (counted 2 make) → format_of in_four ≡ Some (counted 4 make)
-    → length body < 2 ^ 32 → IsText (make body) → Spells (make body) (length_spelling (length body) in_one in_two in_four ++ body)
+    → format_of in_one ≡ Some (counted 1 make) → format_of in_two ≡ Some (counted 2 make)
+    → format_of in_four ≡ Some (counted 4 make)
+    → length body < 2 ^ 32 → IsText (make body) → Spells (make body)
+    (length_spelling (length body) in_one in_two in_four ++ body)
 counted-spelled make body in_one in_two in_four one two four fits utf8 =
     let n = length body in
     elim (cases_lt n 0x100) [
       | inl a ↦
           let value : number (n ∷ []) ≡ n = omega arith in
-          rw (lt-ltb n 0x100 a) (spelled in_one _ (make body) (n ∷ body) one (n ∷ [], body, refl, refl, value, refl) utf8)
+          rw (lt-ltb n 0x100 a) (spelled in_one _ (make body) (n ∷ body) one
+          (n ∷ [], body, refl, refl, value, refl) utf8)
       | inr a ↦ elim (cases_lt n 0x1_0000) [
-        | inl b ↦ rw (le-ltb n 0x100 a, lt-ltb n 0x1_0000 b) (spelled in_two _ (make body) (to_be_bytes w16 n ++ body) two (to_be_bytes w16 n, body, refl, refl, number-w16 n b, refl) utf8)
-        | inr b ↦ rw (le-ltb n 0x100 a, le-ltb n 0x1_0000 b) (spelled in_four _ (make body) (to_be_bytes w32 n ++ body) four (to_be_bytes w32 n, body, refl, refl, number-w32 n fits, refl) utf8)
+        | inl b ↦ rw (le-ltb n 0x100 a, lt-ltb n 0x1_0000 b)
+            (spelled in_two _ (make body) (to_be_bytes w16 n ++ body) two
+            (to_be_bytes w16 n, body, refl, refl, number-w16 n b, refl) utf8)
+        | inr b ↦ rw (le-ltb n 0x100 a, le-ltb n 0x1_0000 b)
+            (spelled in_four _ (make body) (to_be_bytes w32 n ++ body) four
+            (to_be_bytes w32 n, body, refl, refl, number-w32 n fits, refl) utf8)
       ]
     ]
 
 -- a head in 1, 3 or 5 bytes
 head-spelled : (make : ℕ → AtomValue) (n alone_from in_two in_four : ℕ)
     → (n < 16 → format_of (alone_from + n) ≡ Some (alone (make n)))
-    → format_of in_two ≡ Some (fixed 2 (λ bs. make (number bs))) → format_of in_four ≡ Some (fixed 4 (λ bs. make (number bs)))
+    → format_of in_two ≡ Some (fixed 2 (λ bs. make (number bs)))
+    → format_of in_four ≡ Some (fixed 4 (λ bs. make (number bs)))
     → n < 2 ^ 32 → IsText (make n) → Spells (make n) (head_spelling n alone_from in_two in_four)
 head-spelled make n alone_from in_two in_four one two four fits utf8 = elim (cases_lt n 16) [
   | inl a ↦ rw (lt-ltb n 16 a) (spelled-alone (alone_from + n) (make n) (one a) utf8)
   | inr a ↦ elim (cases_lt n 0x1_0000) [
-    | inl b ↦ rw (le-ltb n 16 a, lt-ltb n 0x1_0000 b) (spelled in_two _ (make n) (to_be_bytes w16 n) two (refl, ap make (sym (number-w16 n b))) utf8)
-    | inr b ↦ rw (le-ltb n 16 a, le-ltb n 0x1_0000 b) (spelled in_four _ (make n) (to_be_bytes w32 n) four (refl, ap make (sym (number-w32 n fits))) utf8)
+    | inl b ↦ rw (le-ltb n 16 a, lt-ltb n 0x1_0000 b)
+        (spelled in_two _ (make n) (to_be_bytes w16 n) two (refl, ap make (sym (number-w16 n b))) utf8)
+    | inr b ↦ rw (le-ltb n 16 a, le-ltb n 0x1_0000 b)
+        (spelled in_four _ (make n) (to_be_bytes w32 n) four (refl, ap make (sym (number-w32 n fits))) utf8)
   ]
 ]
 
 text-spelled : (bs : List ℕ) → length bs < 2 ^ 32 → IsUtf8 bs → Spells (text bs) (shortest (text bs))
 unfolding shortest format_of
 text-spelled bs fits utf8 = elim (cases_lt (length bs) 32) [
-  | inl a ↦ rw (lt-ltb (length bs) 32 a) (spelled (0xa0 + length bs) _ (text bs) bs (fixstr (length bs) a) (refl, refl) utf8)
+  | inl a ↦ rw (lt-ltb (length bs) 32 a) (spelled (0xa0 + length bs) _ (text bs) bs (fixstr (length bs) a)
+      (refl, refl) utf8)
   | inr a ↦ rw (le-ltb (length bs) 32 a) (counted-spelled text bs 0xd9 0xda 0xdb refl refl refl fits utf8)
 ]
 
@@ -157,11 +204,13 @@ boolean-spelled false = spelled-alone 0xc2 (boolean false) refl tt
 
 float32-spelled : (bits : ℕ) → bits < 2 ^ 32 → Spells (float32 bits) (shortest (float32 bits))
 unfolding shortest format_of
-float32-spelled bits h = spelled 0xca _ (float32 bits) (to_be_bytes w32 bits) refl (refl, ap float32 (sym (number-w32 bits h))) tt
+float32-spelled bits h = spelled 0xca _ (float32 bits) (to_be_bytes w32 bits) refl
+    (refl, ap float32 (sym (number-w32 bits h))) tt
 
 float64-spelled : (bits : ℕ) → bits < 2 ^ 64 → Spells (float64 bits) (shortest (float64 bits))
 unfolding shortest format_of
-float64-spelled bits h = spelled 0xcb _ (float64 bits) (to_be_bytes w64 bits) refl (refl, ap float64 (sym (number-w64 bits h))) tt
+float64-spelled bits h = spelled 0xcb _ (float64 bits) (to_be_bytes w64 bits) refl
+    (refl, ap float64 (sym (number-w64 bits h))) tt
 
 binary-spelled : (bs : List ℕ) → length bs < 2 ^ 32 → Spells (binary bs) (shortest (binary bs))
 unfolding shortest format_of

@@ -50,7 +50,7 @@ signed_number bs =
 
 -- ---- "Formats"
 
--- what stands behind a first byte
+-- what stands after a first byte
 pub data Format : Type 0 where
   -- so many bytes, and the atom that they make
   fixed : ℕ → (List ℕ → AtomValue) → Format
@@ -98,7 +98,7 @@ format_of first =
 
 -- ---- spellings
 
--- these bytes are all that stands behind a first byte of this format, and make this atom
+-- these bytes are all that stands after a first byte of this format, and make this atom
 abbrev pub Fills : Format → AtomValue → List ℕ → Type 0
 Fills (fixed n make) atom bytes = (length bytes ≡ n) × (atom ≡ make bytes)
 Fills (counted n make) atom bytes = (len : List ℕ) × (body : List ℕ) × (bytes ≡ len ++ body)
@@ -107,11 +107,11 @@ Fills (counted n make) atom bytes = (len : List ℕ) × (body : List ℕ) × (by
 -- the bytes have the form of this atom, one whole format; a text may be any bytes here
 pub record HasForm (atom : AtomValue) (bytes : List ℕ) : Type 0 where
   pub first : ℕ
-  pub behind : List ℕ
+  pub after : List ℕ
   pub format : Format
-  pub whole : bytes ≡ first ∷ behind
+  pub whole : bytes ≡ first ∷ after
   pub format_is : format_of first ≡ Some format
-  pub fills : Fills format atom behind
+  pub fills : Fills format atom after
 
 -- a text is UTF-8
 abbrev pub IsText : AtomValue → Type 0
@@ -125,7 +125,7 @@ pub record Spells (atom : AtomValue) (bytes : List ℕ) : Type 0 where
 
 -- ---- the shortest spelling
 
--- a length behind a first byte: of 1, 2 or 4 bytes, each with a first byte of its own
+-- a length after a first byte: of 1, 2 or 4 bytes, each with a first byte of its own
 abbrev pub length_spelling : ℕ → ℕ → ℕ → ℕ → List ℕ
 length_spelling n in_one in_two in_four =
     if nat_lt n 0x100 then in_one ∷ n ∷ []

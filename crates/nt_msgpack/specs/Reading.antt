@@ -1,4 +1,4 @@
--- What stands at the front of bytes: an atom, too few bytes, or no atom.
+-- What stands at the start of bytes: an atom, too few bytes, or no atom.
 -- The names in quotes are sections of the MessagePack specification.
 use Rattle.std.specs.Prelude.{◌≡◌, ℕ, ◌+◌, ◌<◌, nat_lt, List, [], ◌∷◌, ◌++◌, length, take, drop, Option, None, Some, IsSomeAnd, ◌⊎◌, if◌then◌else◌}
 use Rattle.std.specs.Str.{IsUtf8, is_utf8}
@@ -26,7 +26,7 @@ answer_of (Some answer) = reading_of answer
 
 -- ---- too few bytes, and no atom
 
--- how many bytes a format states behind its first byte. Where the length itself isn't all there, that
+-- how many bytes a format states after its first byte. Where the length itself isn't all there, that
 -- is more than are there, whatever the length is
 abbrev pub stated : Format → List ℕ → ℕ
 stated (fixed n make) bytes = n
@@ -37,13 +37,13 @@ abbrev pub IsShort : List ℕ → Type 0
 IsShort [] = Unit {0}
 IsShort (first ∷ bytes) = IsSomeAnd (format_of first) (λ format. length bytes < stated format bytes)
 
--- the front of the bytes has the form of a text and isn't UTF-8
+-- the start of the bytes has the form of a text and isn't UTF-8
 pub record BeginsNoText (bytes : List ℕ) : Type 0 where
-  pub front : List ℕ
+  pub prefix : List ℕ
   pub rest : List ℕ
   pub body : List ℕ
-  pub whole : bytes ≡ front ++ rest
-  pub form : HasForm (text body) front
+  pub whole : bytes ≡ prefix ++ rest
+  pub form : HasForm (text body) prefix
   pub not_utf8 : ¬ (IsUtf8 body)
 
 -- the bytes begin with this byte, which is that of no format, or that of a whole text that isn't
@@ -65,19 +65,19 @@ abbrev pub fixed_at : ℕ → ℕ → (List ℕ → AtomValue) → List ℕ → 
 fixed_at first n make bytes before =
     if nat_lt (length bytes) n then short else checked first (make (take n bytes)) (before + n)
 
--- what is behind a first byte of this format
+-- what is after a first byte of this format
 abbrev pub format_at : ℕ → Format → List ℕ → Reading
 format_at first (fixed n make) bytes = fixed_at first n make bytes 1
 format_at first (counted n make) bytes =
     if nat_lt (length bytes) n then short
     else fixed_at first (number (take n bytes)) make (drop n bytes) (1 + n)
 
--- what is behind a first byte
-abbrev pub behind : ℕ → Option Format → List ℕ → Reading
-behind first None bytes = bad first
-behind first (Some format) bytes = format_at first format bytes
+-- what is after a first byte
+abbrev pub after_first : ℕ → Option Format → List ℕ → Reading
+after_first first None bytes = bad first
+after_first first (Some format) bytes = format_at first format bytes
 
--- what stands at the front of bytes
+-- what stands at the start of bytes
 unfoldable pub atom_at : List ℕ → Reading
 atom_at [] = short
-atom_at (first ∷ bytes) = behind first (format_of first) bytes
+atom_at (first ∷ bytes) = after_first first (format_of first) bytes

@@ -18,7 +18,7 @@ pub enum Atom<'a> {
     MapHead(u32),
 }
 
-/// What stands at the front of bytes.
+/// What stands at the start of bytes.
 #[derive(Clone, Copy, Debug, PartialEq)]
 pub enum AtomRead<'a> {
     /// This atom, spelled by so many bytes.

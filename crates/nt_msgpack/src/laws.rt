@@ -4,7 +4,7 @@ ghost use Rattle.std.specs.Prelude.{◌≡◌, ℕ, ◌<◌, ◌≤◌, List, le
 ghost use Rattle.nt_msgpack.specs.Atoms.{AtomValue, IsByte, Spells, shortest, Fits, IsTyped};
 ghost use Rattle.nt_msgpack.specs.Reading.{got, short, bad, IsShort, IsBad, atom_at};
 
-/// No spelling is a proper front of another, and each spells one atom. So bytes that begin with a
+/// No spelling is a proper prefix of another, and each spells one atom. So bytes that begin with a
 /// spelling begin with no other, whatever follows.
 pub fn spellings_are_apart()
     ensures { (a b : AtomValue) (x y r s : List ℕ) → Spells a x → Spells b y → x ++ r ≡ y ++ s
@@ -12,7 +12,7 @@ pub fn spellings_are_apart()
 {}
 
 /// What `atom_at` gives, step by step, is what the formats say: an atom exactly where the bytes
-/// begin with a spelling of it, whatever follows. Of bytes that are too few no front is a spelling,
+/// begin with a spelling of it, whatever follows. Of bytes that are too few no prefix is a spelling,
 /// and where there is no atom there is none however they go on.
 pub fn spelling_is_reading()
     ensures reads { (a : AtomValue) (x rest : List ℕ) → Spells a x

@@ -1,8 +1,8 @@
-//! Reading one atom from the front of bytes.
+//! Reading one atom from the start of bytes.
 
 ghost use Rattle.std.specs.Prelude.{◌≡◌, ℕ, ◌+◌, ◌≤◌, ◌<◌, List, length, take, drop, ◌↔◌, Option, MatchOption};
 ghost use Rattle.nt_msgpack.specs.Atoms.{AtomValue, text, binary, number, format_of, value_of, Spells};
-ghost use Rattle.nt_msgpack.specs.Reading.{Reading, got, short, bad, reading_of, answer_of, IsShort, IsBad, fixed_at, behind, atom_at};
+ghost use Rattle.nt_msgpack.specs.Reading.{Reading, got, short, bad, reading_of, answer_of, IsShort, IsBad, fixed_at, after_first, atom_at};
 
 use crate::atom::{Atom, AtomRead};
 
@@ -53,7 +53,7 @@ fn u64_at(bytes: &[u8]) -> Option<u64>
     }
 }
 
-/// So many bytes behind those of their length.
+/// So many bytes after those of their length.
 fn body_at(at: usize, len: usize, bytes: &[u8]) -> Option<&[u8]>
     requires { at ≤ length bytes.now }
     ensures { MatchOption result (length bytes.now < at + len)
@@ -70,7 +70,7 @@ fn got(atom: Atom<'_>, used: usize) -> Option<AtomRead<'_>>
     Some(AtomRead::Got { atom, used })
 }
 
-/// Bytes behind those of their length.
+/// Bytes after those of their length.
 fn binary_at(at: usize, len: usize, bytes: &[u8]) -> Option<AtomRead<'_>>
     requires { at ≤ length bytes.now }
     ensures { (first : ℕ)
@@ -80,7 +80,7 @@ fn binary_at(at: usize, len: usize, bytes: &[u8]) -> Option<AtomRead<'_>>
     got(Atom::Bytes(body), 1 + at + len)
 }
 
-/// A text behind the bytes of its length.
+/// A text after the bytes of its length.
 fn text_at(first: u8, at: usize, len: usize, bytes: &[u8]) -> Option<AtomRead<'_>>
     requires { at ≤ length bytes.now }
     ensures { answer_of result ≡ fixed_at first len text (drop at bytes.now) (1 + at) }
@@ -92,13 +92,13 @@ fn text_at(first: u8, at: usize, len: usize, bytes: &[u8]) -> Option<AtomRead<'_
     }
 }
 
-/// A whole number behind its first byte ("int format family"). None as in `atom_behind`.
+/// A whole number after its first byte ("int format family"). None as in `atom_after`.
 #[inline(always)]
 #[tactic(auto, unfolding(crate::specs::Atoms::format_of))]
-fn int_behind(first: u8, bytes: &[u8]) -> Option<AtomRead<'_>>
+fn int_after(first: u8, bytes: &[u8]) -> Option<AtomRead<'_>>
     requires from { 0xcc ≤ first }
     requires to { first < 0xd4 }
-    ensures { answer_of result ≡ behind first (format_of first) bytes.now }
+    ensures { answer_of result ≡ after_first first (format_of first) bytes.now }
 {
     match first {
         0xcc => got(Atom::Int(i128::from(u8_at(bytes)?)), 2),
@@ -112,11 +112,11 @@ fn int_behind(first: u8, bytes: &[u8]) -> Option<AtomRead<'_>>
     }
 }
 
-/// What is behind a first byte ("Overview"). None where the stated bytes aren't all there.
+/// What is after a first byte ("Overview"). None where the stated bytes aren't all there.
 #[inline(always)]
 #[tactic(auto, unfolding(crate::specs::Atoms::format_of))]
-fn atom_behind(first: u8, bytes: &[u8]) -> Option<AtomRead<'_>>
-    ensures { answer_of result ≡ behind first (format_of first) bytes.now }
+fn atom_after(first: u8, bytes: &[u8]) -> Option<AtomRead<'_>>
+    ensures { answer_of result ≡ after_first first (format_of first) bytes.now }
 {
     match first {
         0x00..=0x7f => got(Atom::Int(i128::from(first)), 1),
@@ -129,7 +129,7 @@ fn atom_behind(first: u8, bytes: &[u8]) -> Option<AtomRead<'_>>
         0xc6 => binary_at(4, u32_at(bytes)? as usize, bytes),
         0xca => got(Atom::F32(u32_at(bytes)?), 5),
         0xcb => got(Atom::F64(u64_at(bytes)?), 9),
-        0xcc..=0xd3 => int_behind(first, bytes),
+        0xcc..=0xd3 => int_after(first, bytes),
         0xd9 => text_at(first, 1, usize::from(u8_at(bytes)?), bytes),
         0xda => text_at(first, 2, usize::from(u16_at(bytes)?), bytes),
         0xdb => text_at(first, 4, u32_at(bytes)? as usize, bytes),
@@ -142,18 +142,18 @@ fn atom_behind(first: u8, bytes: &[u8]) -> Option<AtomRead<'_>>
     }
 }
 
-/// What stands at the front of the bytes.
+/// What stands at the start of the bytes.
 #[inline(always)]
-fn front_of(bytes: &[u8]) -> AtomRead<'_>
+fn first_atom(bytes: &[u8]) -> AtomRead<'_>
     ensures { reading_of result ≡ atom_at bytes.now }
 {
-    let [first, behind @ ..] = bytes else {
+    let [first, after @ ..] = bytes else {
         return AtomRead::Short;
     };
-    atom_behind(*first, behind).unwrap_or(AtomRead::Short)
+    atom_after(*first, after).unwrap_or(AtomRead::Short)
 }
 
-/// The atom at the front of the bytes, in one pass, with no copy. Every width is read; nil and the
+/// The atom at the start of the bytes, in one pass, with no copy. Every width is read; nil and the
 /// extensions aren't ("Formats").
 #[inline(always)]
 pub fn read_atom(bytes: &[u8]) -> AtomRead<'_>
@@ -165,5 +165,5 @@ pub fn read_atom(bytes: &[u8]) -> AtomRead<'_>
     ensures short { (reading_of result ≡ short) ↔ IsShort bytes.now }
     ensures bad { (first : ℕ) → (reading_of result ≡ bad first) ↔ IsBad bytes.now first }
 {
-    front_of(bytes)
+    first_atom(bytes)
 }

@@ -2,10 +2,10 @@
 use Rattle.std.proofs.Common.{◌≡◌, ◌≤◌, ◌↔◌, ℕ, zero, suc, Bool, true, false, cond, not, List, [], ◌∷◌, map, filter, take, refl, ap, ◌∙◌, arith}
 use Rattle.nt_control.specs.declared.message.ServerMsg.{ServerMsg}
 use Rattle.nt_frames.specs.declared.message.ValueMsg.{ValueMsg}
-use Rattle.nt_outbox.specs.declared.mark.Mark.{Mark}
-use Rattle.nt_outbox.specs.declared.batch.Batch.{Batch}
-use Rattle.nt_outbox.specs.Keys.{Key, is_value}
-use Rattle.nt_outbox.specs.Messages.{Living, text_of, value_of, batch_of}
+use Rattle.nt_rules.specs.outbox.Marks.{Mark}
+use Rattle.nt_rules.specs.declared.batch.Batch.{Batch}
+use Rattle.nt_rules.specs.outbox.Keys.{Key, is_value}
+use Rattle.nt_rules.specs.outbox.Messages.{Living, text_of, value_of, batch_of}
 
 none-taken : (n : ℕ) (ks : List Key) → 1 ≤ n → take n ks ≡ [] → ks ≡ []
 none-taken zero ks le e = absurd (omega arith)

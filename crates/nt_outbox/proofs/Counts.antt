@@ -2,12 +2,13 @@
 use Rattle.std.proofs.Common.{◌≡◌, ◌≤◌, ◌+◌, ◌*◌, ◌-◌, ◌^◌, min, ℕ, Bool, true, false, cond, not, ◌&&◌, List, [], ◌∷◌, Option, Some, None, is_some, map, length, refl, arith, length-append}
 use Rattle.std.specs.List.{flat_map}
 use Rattle.std.proofs.lemmas.Bool.Decides.{nat_tests}
-use Rattle.nt_outbox.specs.declared.mark.Placed.{Placed}
-use Rattle.nt_outbox.specs.declared.mark.Setting.{Setting}
-use Rattle.nt_outbox.specs.declared.mark.Mark.{Mark}
-use Rattle.nt_outbox.specs.Keys.{Key, is_before, insert_key, in_order, end_key, publish_key, setting_key, topic_key, value_key}
-use Rattle.nt_outbox.specs.Marks.{end_keys, reply_keys, topic_keys, value_keys, newest_keys, keys, option_items, settings_weight, values_weight, mark_weight, weight, is_wish, is_empty}
-use Rattle.nt_outbox.specs.Calls.{most_weight, fallen, left}
+use Rattle.nt_rules.specs.Limits.{most_weight}
+use Rattle.nt_rules.specs.declared.waiting.Placed.{Placed}
+use Rattle.nt_rules.specs.declared.waiting.Setting.{Setting}
+use Rattle.nt_rules.specs.outbox.Marks.{Mark}
+use Rattle.nt_rules.specs.outbox.Keys.{Key, is_before, insert_key, in_order, end_key, publish_key, setting_key, topic_key, value_key}
+use Rattle.nt_rules.specs.outbox.Marks.{end_keys, reply_keys, topic_keys, value_keys, newest_keys, keys, option_items, settings_weight, values_weight, mark_weight, weight, is_wish, is_empty}
+use Rattle.nt_rules.specs.outbox.Calls.{fallen, left}
 use Rattle.nt_outbox.specs.Steps.{mark_count, count, RiseFrom}
 
 length-mapped : {X : Type 0} (f : X → Key) (xs : List X) → length (map f xs) ≡ length xs

@@ -3,4 +3,7 @@ pub mod Places
 pub mod Order
 pub mod Batches
 pub mod Counts
+pub mod Queues
 pub mod Handed
+pub mod Noted
+pub mod Sendable

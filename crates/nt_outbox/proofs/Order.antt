@@ -4,7 +4,7 @@ use Rattle.std.specs.List.{AllByRecursion}
 use Rattle.std.specs.List.Sorted.{IsSortedBy, IsStableBy}
 use Rattle.std.specs.Ordering.{is_lt, ordering_then}
 use Rattle.std.proofs.lemmas.Bool.Decides.{nat_tests}
-use Rattle.nt_outbox.specs.Keys.{Key, is_before, insert_key, in_order}
+use Rattle.nt_rules.specs.outbox.Keys.{Key, is_before, insert_key, in_order}
 
 -- ---- the order
 

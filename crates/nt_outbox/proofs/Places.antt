@@ -5,14 +5,14 @@ use Rattle.std.specs.List.{cons_option}
 use Rattle.std.specs.Ordering.{ordering_index}
 use Rattle.std.specs.List.Sorted.{IsBinarySearchResult, IsSearchInRange}
 use Rattle.std.proofs.lemmas.Bool.Decides.{nat_tests}
-use Rattle.nt_table.specs.Topics.{change_at}
-use Rattle.nt_outbox.specs.declared.mark.Mark.{Mark}
+use Rattle.nt_rules.specs.topics.Topics.{change_at}
+use Rattle.nt_rules.specs.outbox.Marks.{Mark}
 use Rattle.nt_outbox.specs.declared.step.Step.{Step}
 use Rattle.nt_outbox.specs.declared.step.Step.TheVariants as step
-use Rattle.nt_outbox.specs.Marks.{is_blank, fresh, kept, at_id, handed, handed_all}
-use Rattle.nt_outbox.specs.Keys.{Key}
-use Rattle.nt_outbox.specs.Messages.{mark_at}
-use Rattle.nt_outbox.specs.Steps.{after, left_of, next_place, position_of, RiseFrom}
+use Rattle.nt_rules.specs.outbox.Marks.{is_blank, fresh, kept, at_id, handed, handed_all}
+use Rattle.nt_rules.specs.outbox.Keys.{Key}
+use Rattle.nt_rules.specs.outbox.Messages.{mark_at}
+use Rattle.nt_outbox.specs.Steps.{after, left_of, next_index, position_of, RiseFrom}
 
 -- ---- ids that rise
 
@@ -41,22 +41,22 @@ rise-up n (suc i) (suc j) (m ∷ ms) d h le lt = rise-up (m.id + 1) i j ms d h.1
 position-here : (id : ℕ) (m : Mark) (ms : List Mark) → m.id ≡ id → position_of id (m ∷ ms) ≡ Ok 0
 position-here id m ms e =
     let t : eqb m.id id ≡ true = grind (arith, nat_tests) in
-    ap (λ b. cond b (Ok 0) (cond (ltb id m.id) (Err 0) (next_place (position_of id ms)))) t
+    ap (λ b. cond b (Ok 0) (cond (ltb id m.id) (Err 0) (next_index (position_of id ms)))) t
 
 position-before : (id : ℕ) (m : Mark) (ms : List Mark) → id < m.id → position_of id (m ∷ ms) ≡ Err 0
 position-before id m ms lt =
     let t : eqb m.id id ≡ false = grind (arith, nat_tests) in
     let u : ltb id m.id ≡ true = grind (arith, nat_tests) in
-    ap (λ b. cond b (Ok 0) (cond (ltb id m.id) (Err 0) (next_place (position_of id ms)))) t
-    ∙ ap (λ b. cond b (Err 0) (next_place (position_of id ms))) u
+    ap (λ b. cond b (Ok 0) (cond (ltb id m.id) (Err 0) (next_index (position_of id ms)))) t
+    ∙ ap (λ b. cond b (Err 0) (next_index (position_of id ms))) u
 
 position-after : (id : ℕ) (m : Mark) (ms : List Mark) → m.id < id
-    → position_of id (m ∷ ms) ≡ next_place (position_of id ms)
+    → position_of id (m ∷ ms) ≡ next_index (position_of id ms)
 position-after id m ms lt =
     let t : eqb m.id id ≡ false = grind (arith, nat_tests) in
     let u : ltb id m.id ≡ false = grind (arith, nat_tests) in
-    ap (λ b. cond b (Ok 0) (cond (ltb id m.id) (Err 0) (next_place (position_of id ms)))) t
-    ∙ ap (λ b. cond b (Err 0) (next_place (position_of id ms))) u
+    ap (λ b. cond b (Ok 0) (cond (ltb id m.id) (Err 0) (next_index (position_of id ms)))) t
+    ∙ ap (λ b. cond b (Err 0) (next_index (position_of id ms))) u
 
 found : (id n i : ℕ) (ms : List Mark) → RiseFrom n ms → i < length ms → ((d : Mark) → (get_or ms i d).id ≡ id)
     → Ok i ≡ position_of id ms
@@ -65,7 +65,7 @@ found id n zero (m ∷ ms) h lt at = sym (position-here id m ms (at m))
 found id n (suc i) (m ∷ ms) h lt at =
     let later = rise-at (m.id + 1) i ms m h.1 (omega arith) in
     let same = at m in
-    ap next_place (found id (m.id + 1) i ms h.1 (omega arith) at) ∙ sym (position-after id m ms (omega arith))
+    ap next_index (found id (m.id + 1) i ms h.1 (omega arith) at) ∙ sym (position-after id m ms (omega arith))
 
 missing : (id n i : ℕ) (ms : List Mark) → RiseFrom n ms → i ≤ length ms
     → ((k : ℕ) (d : Mark) → k < i → (get_or ms k d).id < id)
@@ -76,7 +76,7 @@ missing id n (suc i) [] h le below above = absurd (omega arith)
 missing id n zero (m ∷ ms) h le below above = sym (position-before id m ms (above 0 m (omega arith)
     (omega arith)))
 missing id n (suc i) (m ∷ ms) h le below above =
-    ap next_place (missing id (m.id + 1) i ms h.1 (omega arith) (λ k d lt. below (suc k) d (omega arith))
+    ap next_index (missing id (m.id + 1) i ms h.1 (omega arith) (λ k d lt. below (suc k) d (omega arith))
     (λ k d le lt. above (suc k) d (omega arith) (omega arith)))
     ∙ sym (position-after id m ms (below 0 m (omega arith)))
 
@@ -123,8 +123,8 @@ kept-left m ms = by (is_blank m)
     by true = refl
     by false = refl
 
-kept-front : (m : Mark) (ms : List Mark) → kept m ms ≡ cond (is_blank m) ms (insert ms 0 m)
-kept-front m ms = refl
+kept-prefix : (m : Mark) (ms : List Mark) → kept m ms ≡ cond (is_blank m) ms (insert ms 0 m)
+kept-prefix m ms = refl
 
 next-at : (id : ℕ) (m : Mark) (ms : List Mark) (i : ℕ) → eqb m.id id ≡ false → ltb id m.id ≡ false
     → IsAt id ms i
@@ -154,13 +154,13 @@ placed id (m ∷ ms) = by (eqb m.id id) refl (ltb id m.id) refl (placed id ms)
   where
     next : (r : Result ℕ ℕ) → eqb m.id id ≡ false → ltb id m.id ≡ false
         → MatchResult r (IsAt id ms) (IsGap id ms)
-        → MatchResult (next_place r) (IsAt id (m ∷ ms)) (IsGap id (m ∷ ms))
+        → MatchResult (next_index r) (IsAt id (m ∷ ms)) (IsGap id (m ∷ ms))
     next (Ok i) e l h = next-at id m ms i e l h
     next (Err i) e l h = next-gap id m ms i e l h
 
     by : (b : Bool) → eqb m.id id ≡ b → (c : Bool) → ltb id m.id ≡ c
         → MatchResult (position_of id ms) (IsAt id ms) (IsGap id ms)
-        → MatchResult (cond b (Ok 0) (cond c (Err 0) (next_place (position_of id ms)))) (IsAt id (m ∷ ms))
+        → MatchResult (cond b (Ok 0) (cond c (Err 0) (next_index (position_of id ms)))) (IsAt id (m ∷ ms))
         (IsGap id (m ∷ ms))
     by true e c l h = record {
       within = omega arith;
@@ -185,8 +185,7 @@ after-id (step.Told s wish) m = refl
 after-id (step.Ended place) m = refl
 after-id (step.Published p) m = refl
 after-id (step.OwnSetting s) m = refl
-after-id (step.TurnAll held) m = refl
-after-id (step.Turn wish place) m = refl
+after-id (step.Turn wish held place) m = refl
 after-id (step.MetaTurn wish) m = refl
 after-id (step.MetaChanged wish) m = refl
 after-id step.Nothing m = refl
@@ -230,14 +229,14 @@ pub mark-found : (id : ℕ) (ms : List Mark) (i : ℕ) (x : Mark) → position_o
 mark-found id [] i x e h = absurd (cc)
 mark-found id (m ∷ ms) i x e h = by (eqb m.id id) (ltb id m.id) e (λ j e h. mark-found id ms j x e h)
   where
-    next : (r : Result ℕ ℕ) → r ≡ position_of id ms → next_place r ≡ Ok i
+    next : (r : Result ℕ ℕ) → r ≡ position_of id ms → next_index r ≡ Ok i
         → ((j : ℕ) → position_of id ms ≡ Ok j → x ≡ get_or ms j x → mark_at id ms ≡ Some x)
         → mark_at id ms ≡ Some x
     next (Ok j) r e more = let same : suc j ≡ i = cc in more j (sym r) (h
         ∙ ap (λ k. get_or (m ∷ ms) k x) (sym same))
     next (Err j) r e more = absurd (cc)
 
-    by : (b c : Bool) → cond b (Ok 0) (cond c (Err 0) (next_place (position_of id ms))) ≡ Ok i
+    by : (b c : Bool) → cond b (Ok 0) (cond c (Err 0) (next_index (position_of id ms))) ≡ Ok i
         → ((j : ℕ) → position_of id ms ≡ Ok j → x ≡ get_or ms j x → mark_at id ms ≡ Some x)
         → cond b (Some m) (mark_at id ms) ≡ Some x
     by true c e more = let same : 0 ≡ i = cc in ap Some (sym (h ∙ ap (λ k. get_or (m ∷ ms) k x) (sym same)))
@@ -257,13 +256,13 @@ mark-missing id n [] i h e = refl
 mark-missing id n (m ∷ ms) i h e =
     by (eqb m.id id) (ltb id m.id) refl e (λ j e. mark-missing id (m.id + 1) ms j h.1 e)
   where
-    next : (r : Result ℕ ℕ) → r ≡ position_of id ms → next_place r ≡ Err i
+    next : (r : Result ℕ ℕ) → r ≡ position_of id ms → next_index r ≡ Err i
         → ((j : ℕ) → position_of id ms ≡ Err j → mark_at id ms ≡ None) → mark_at id ms ≡ None
     next (Ok j) r e more = absurd (cc)
     next (Err j) r e more = more j (sym r)
 
     by : (b c : Bool) → ltb id m.id ≡ c
-        → cond b (Ok 0) (cond c (Err 0) (next_place (position_of id ms))) ≡ Err i
+        → cond b (Ok 0) (cond c (Err 0) (next_index (position_of id ms))) ≡ Err i
         → ((j : ℕ) → position_of id ms ≡ Err j → mark_at id ms ≡ None)
         → cond b (Some m) (mark_at id ms) ≡ None
     by true c l e more = absurd (cc)

@@ -4,12 +4,12 @@ use Rattle.std.specs.Prelude.{insert}
 use Rattle.std.specs.List.{cons_option}
 use Rattle.serde_json.specs.Written.{compact_text}
 use Rattle.nt_values.specs.Types.{size_of}
-use Rattle.nt_outbox.specs.declared.mark.Placed.{Placed}
-use Rattle.nt_outbox.specs.declared.mark.Setting.{Setting}
-use Rattle.nt_outbox.specs.declared.mark.Publish.{Publish}
-use Rattle.nt_outbox.specs.declared.mark.Mark.{Mark}
-use Rattle.nt_table.specs.Topics.{change_at}
-use Rattle.nt_outbox.specs.Marks.{values_weight, settings_weight, mark_weight, weight, is_blank, is_empty, is_wish, option_items}
+use Rattle.nt_rules.specs.declared.waiting.Placed.{Placed}
+use Rattle.nt_rules.specs.declared.waiting.Setting.{Setting}
+use Rattle.nt_rules.specs.declared.waiting.Publish.{Publish}
+use Rattle.nt_rules.specs.outbox.Marks.{Mark}
+use Rattle.nt_rules.specs.topics.Topics.{change_at}
+use Rattle.nt_rules.specs.outbox.Marks.{values_weight, settings_weight, mark_weight, weight, is_blank, is_empty, is_wish, option_items}
 use Rattle.nt_outbox.specs.Steps.{left_of}
 
 -- a value more

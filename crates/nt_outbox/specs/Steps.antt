@@ -1,12 +1,15 @@
 -- What happens to what is kept of a topic, as cases; and where a topic stands among those that are kept.
 use Rattle.std.specs.Prelude.{ℕ, suc, false, List, [], ◌∷◌, length, Option, Some, None, Result, Ok, Err, ◌≡◌, ◌≤◌, ◌+◌, ◌^◌, ◌==◌, nat_lt, if◌then◌else◌}
 use Rattle.nt_subs.specs.declared.wish.Wanted.TheVariants.{Newest, All}
-use Rattle.nt_outbox.specs.declared.mark.Mark.{Mark}
+use Rattle.nt_rules.specs.outbox.Marks.{Mark}
 use Rattle.nt_outbox.specs.declared.step.Step.{Step}
 use Rattle.nt_outbox.specs.declared.step.Step.TheVariants as step
-use Rattle.nt_outbox.specs.declared.kept.Kept.{Kept}
-use Rattle.nt_outbox.specs.Marks.{started, noted_value, noted_setting, ended, replied_publish, replied_setting, newest_of, from_place, is_blank, weight, option_items, topic_keys}
-use Rattle.nt_outbox.specs.Calls.{Box}
+use Rattle.nt_rules.specs.outbox.Marks.{started, noted_value, noted_setting, ended, replied_publish, replied_setting, newest_of, from_place, is_blank, weight, at_id, option_items, topic_keys}
+
+-- one more than the last place, and 0 where there is none
+abbrev pub next_of : Option ℕ → ℕ
+next_of None = 0
+next_of (Some place) = place + 1
 
 abbrev pub after : Step → Mark → Mark
 after (step.Wish wish) m = started wish m
@@ -16,8 +19,8 @@ after (step.Told s wish) m = noted_setting s wish m
 after (step.Ended place) m = ended place m
 after (step.Published p) m = replied_publish p m
 after (step.OwnSetting s) m = replied_setting s m
-after (step.TurnAll held) m = record m { wish = All; values = from_place m.next held; newest = None }
-after (step.Turn wish place) m = record m { wish = wish; values = []; newest = newest_of wish m.next place }
+after (step.Turn wish held place) m =
+    record m { wish = wish; values = from_place m.next held; newest = newest_of wish m.next place }
 after (step.MetaTurn wish) m = record m { wish = wish; newest = newest_of wish m.next (Some 0) }
 after (step.MetaChanged wish) m = record m { wish = wish; next = 0; newest = newest_of wish 0 (Some 0) }
 after step.Nothing m = m
@@ -29,19 +32,24 @@ left_of m = if is_blank m then None else Some m
 abbrev pub left_after : Step → Mark → Option Mark
 left_after s m = left_of (after s m)
 
--- ---- places among the topics
+-- the marks with that of this id changed, where there is an id
+abbrev pub at_known : Option ℕ → List ℕ → (Mark → Mark) → List Mark → List Mark
+at_known None name f marks = marks
+at_known (Some id) name f marks = at_id id name f marks
 
-abbrev pub next_place : Result ℕ ℕ → Result ℕ ℕ
-next_place (Ok place) = Ok (suc place)
-next_place (Err place) = Err (suc place)
+-- ---- where a topic stands
 
--- the position of the topic of this id, or else the one where it would stand
+abbrev pub next_index : Result ℕ ℕ → Result ℕ ℕ
+next_index (Ok i) = Ok (suc i)
+next_index (Err i) = Err (suc i)
+
+-- the index of the topic of this id, or else the one where it would stand
 abbrev pub position_of : ℕ → List Mark → Result ℕ ℕ
 position_of id [] = Err 0
 position_of id (m ∷ marks) =
     if m.id == id then Ok 0
     else if nat_lt id m.id then Err 0
-    else next_place (position_of id marks)
+    else next_index (position_of id marks)
 
 -- the ids rise, from this number on, and are numbers of 32 bits
 abbrev pub RiseFrom : ℕ → List Mark → Type 0
@@ -61,10 +69,6 @@ count (m ∷ marks) = mark_count m + count marks
 -- ---- what an outbox keeps
 
 -- the ids rise, and the weight is that of what is queued
-pub record IsSound (kept : Kept) : Type 0 where
-  pub rising : RiseFrom 0 kept.marks.items
-  pub weighed : kept.weight ≡ weight kept.marks.items
-
--- as contracts see it
-abbrev pub box_of : Kept → Box
-box_of kept = record { failed = false; place = kept.place; fell = kept.fell; marks = kept.marks.items }
+pub record IsSound (marks : List Mark) (queued : ℕ) : Type 0 where
+  pub rising : RiseFrom 0 marks
+  pub weighed : queued ≡ weight marks

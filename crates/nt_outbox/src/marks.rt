@@ -1,18 +1,16 @@
 //! The topics of which something is kept, by rising id.
 
-ghost use Rattle.std.specs.Prelude.{◌≡◌, ◌+◌, ◌≤◌, ◌<◌, vec_len, remove, insert, Some, None, Ok, Err, IfOk, OnOk, length, option_copied, if◌then◌else◌};
+ghost use Rattle.std.specs.Prelude.{◌≡◌, ◌≤◌, ◌<◌, vec_len, insert, IfOk, OnOk, length, if◌then◌else◌};
 ghost use Rattle.std.specs.List.Sorted.{IsSearchInRange};
-ghost use Rattle.nt_table.specs.Topics.{change_at};
-ghost use Rattle.nt_outbox.specs.Marks.{is_blank, fresh, mark_weight, weight, at_id};
-ghost use Rattle.nt_outbox.specs.Messages.{mark_at};
-ghost use Rattle.nt_outbox.specs.Steps.{after, left_after, left_of, position_of, RiseFrom};
+ghost use Rattle.nt_rules.specs.topics.Topics.{change_at};
+ghost use Rattle.nt_rules.specs.outbox.Marks.{is_blank, mark_weight, weight, at_id};
+ghost use Rattle.nt_outbox.specs.Steps.{after, left_of, left_after, position_of, RiseFrom};
 
-use crate::edit::{apply, fresh, is_blank};
-use crate::mark::Mark;
-use crate::step::Step;
+use crate::mark::{Mark, fresh, is_blank};
+use crate::step::{Step, apply};
 use std::alloc::{AllocError, Global};
 
-/// The position of the topic of this id, or else the one where it would stand.
+/// The index of the topic of this id, or else the one where it would stand.
 pub fn position(marks: &[Mark], id: u32) -> Result<usize, usize>
     requires { RiseFrom 0 marks.now }
     ensures position { result ≡ position_of id marks.now }
@@ -21,24 +19,17 @@ pub fn position(marks: &[Mark], id: u32) -> Result<usize, usize>
     marks.binary_search_by_key(&id, |mark| mark.id)
 }
 
-/// Takes the topic at a position out where nothing of it has to be kept.
+/// Takes the topic at an index out where nothing of it has to be kept.
 fn settle(marks: &mut Vec<Mark>, i: usize)
     requires { i < vec_len marks.old }
     ensures { marks.new.items ≡ change_at left_of i marks.old.items }
 {
     if is_blank(&marks[i]) {
-        remove_at(marks, i);
+        drop(marks.remove(i));
     }
 }
 
-fn remove_at(marks: &mut Vec<Mark>, i: usize)
-    requires { i < vec_len marks.old }
-    ensures { marks.new.items ≡ remove marks.old.items i }
-{
-    let _gone = marks.remove(i);
-}
-
-/// A step changes the topic at a position. It answers the weight of all that is queued.
+/// A step changes the topic at an index. It answers the weight of all that is queued.
 fn change_at(
     alloc: Global,
     marks: &mut Vec<Mark>,
@@ -56,7 +47,7 @@ fn change_at(
     Ok(weight)
 }
 
-/// A step changes a topic of which nothing is kept, and which would stand at a position.
+/// A step changes a topic of which nothing is kept, and which would stand at an index.
 fn change_fresh(
     alloc: Global,
     marks: &mut Vec<Mark>,

@@ -1,38 +1,25 @@
 //! The messages that keys name.
 
-ghost use Rattle.std.specs.Prelude.{◌≡◌, ◌==◌, List, Option, option_copied, pos, not, map, filter, IfOk, OnOk};
+ghost use Rattle.std.specs.Prelude.{◌≡◌, ◌==◌, List, option_copied, IfOk};
 ghost use Rattle.std.specs.List.{find};
-ghost use Rattle.nt_meta.specs.declared.meta.MetaNow.{MetaNow};
-ghost use Rattle.nt_table.specs.Topics.{is_named};
-ghost use Rattle.nt_outbox.specs.Marks.{is_meta};
-ghost use Rattle.nt_outbox.specs.Messages.{unannounced, announced_topic, announced_meta, announced, uid_at, properties, text_by, said, no_value, held_value, meta_value, placed_value, value_by, mark_at, text_of, value_of, batch_of};
+ghost use Rattle.nt_rules.specs.declared.meta.MetaNow.{MetaNow};
+ghost use Rattle.nt_rules.specs.outbox.Messages.{unannounced, announced, uid_at, properties, text_by, no_value, held_value, meta_value, placed_value, value_by, mark_at, text_of, value_of, batch_of};
+ghost use Rattle.nt_outbox.specs.Kinds.{kind_of};
 ghost use Rattle.nt_outbox.specs.Steps.{RiseFrom};
-ghost use Rattle.nt_outbox.specs.Tells.{kind_of};
 
-use crate::batch::Batch;
-use crate::key::{Key, Tells};
-use crate::mark::{Mark, Placed, Publish, Setting};
+use crate::key::{Key, Kind};
+use crate::mark::Mark;
 use crate::marks::position;
 use nt_control::ServerMsg;
 use nt_frames::ValueMsg;
-use nt_meta::MetaNow;
-use nt_table::{Table, Timed};
+use nt_rules::{Batch, FIRST_META, MetaNow, Placed, Publish, Setting, Timed};
+use nt_table::Table;
 use nt_topics::{Name, Props, TypeName};
 use nt_values::{ListOf, Value};
 use std::alloc::{AllocError, Global};
 
-/// The id of the first meta topic.
-const FIRST_META: u32 = 536_870_912;
-
 /// The type of a meta topic.
 const META_TYPE: &str = "msgpack";
-
-/// Whether the id is that of a meta topic.
-fn is_meta(id: u32) -> bool
-    ensures { result ≡ is_meta id }
-{
-    id >= FIRST_META
-}
 
 /// The end of a topic.
 fn unannounced(alloc: Global, mark: &Mark) -> Result<ServerMsg, AllocError>
@@ -44,46 +31,7 @@ fn unannounced(alloc: Global, mark: &Mark) -> Result<ServerMsg, AllocError>
     })
 }
 
-/// The announce of a topic, as it is now.
-fn announced_topic(
-    alloc: Global,
-    table: &Table,
-    mark: &Mark,
-    pubuid: Option<i64>,
-) -> Result<ServerMsg, AllocError>
-    ensures { IfOk result
-        (λ m. m
-        ≡ announced_topic mark.now pubuid (find (is_named mark.now.name) table.now.topics)) }
-{
-    match table.topic(mark.name.as_str()) {
-        Some(topic) => Ok(ServerMsg::Announce {
-            name: Name::of(alloc, topic.name.as_str())?,
-            id: i64::from(topic.id),
-            typ: topic.typ.copy(alloc)?,
-            pubuid,
-            props: topic.props.copy()?,
-        }),
-        None => unannounced(alloc, mark),
-    }
-}
-
-/// The announce of a meta topic.
-fn announced_meta(alloc: Global, mark: &Mark, pubuid: Option<i64>) -> Result<ServerMsg, AllocError>
-    ensures { IfOk result (λ m. m ≡ announced_meta mark.now pubuid) }
-{
-    let Ok(typ) = TypeName::of(alloc, META_TYPE) else {
-        return Err(AllocError);
-    };
-    Ok(ServerMsg::Announce {
-        name: mark.name.copy(alloc)?,
-        id: i64::from(mark.id),
-        typ,
-        pubuid,
-        props: Props::empty(alloc),
-    })
-}
-
-/// The announce of a topic or a meta topic.
+/// The announce of a topic or a meta topic, as it is now.
 fn announced(
     alloc: Global,
     table: &Table,
@@ -93,10 +41,27 @@ fn announced(
     ensures { IfOk result (λ m. (metas : List MetaNow)
         → m ≡ announced (record { topics = table.now.topics; metas = metas }) mark.now pubuid) }
 {
-    if is_meta(mark.id) {
-        announced_meta(alloc, mark, pubuid)
-    } else {
-        announced_topic(alloc, table, mark, pubuid)
+    if mark.id >= FIRST_META {
+        let Ok(typ) = TypeName::of(alloc, META_TYPE) else {
+            return Err(AllocError);
+        };
+        return Ok(ServerMsg::Announce {
+            name: mark.name.copy(alloc)?,
+            id: i64::from(mark.id),
+            typ,
+            pubuid,
+            props: Props::empty(alloc),
+        });
+    }
+    match table.topic(mark.name.as_str()) {
+        Some(topic) => Ok(ServerMsg::Announce {
+            name: Name::of(alloc, topic.name.as_str())?,
+            id: i64::from(topic.id),
+            typ: topic.typ.copy(alloc)?,
+            pubuid,
+            props: topic.props.copy()?,
+        }),
+        None => unannounced(alloc, mark),
     }
 }
 
@@ -168,21 +133,21 @@ fn text_by(
     alloc: Global,
     table: &Table,
     mark: &Mark,
-    tells: Tells,
+    kind: Kind,
     place: u64,
 ) -> Result<ServerMsg, AllocError>
     ensures { IfOk result (λ m. (metas : List MetaNow)
         → m ≡ text_by (record { topics = table.now.topics; metas = metas })
-        mark.now (kind_of tells) place) }
+        mark.now (kind_of kind) place) }
 {
-    match tells {
-        Tells::End | Tells::Value => unannounced(alloc, mark),
-        Tells::Publish => {
+    match kind {
+        Kind::End | Kind::Value => unannounced(alloc, mark),
+        Kind::Publish => {
             let pubuid = uid_at(place, mark.publishes.as_slice());
             announced(alloc, table, mark, pubuid)
         }
-        Tells::Setting => properties(alloc, mark, place),
-        Tells::Topic => announced(alloc, table, mark, None),
+        Kind::Setting => properties(alloc, mark, place),
+        Kind::Topic => announced(alloc, table, mark, None),
     }
 }
 
@@ -261,7 +226,7 @@ fn value_by(
     ensures { IfOk result (λ m. m
         ≡ value_by (record { topics = table.now.topics; metas = metas.now }) now mark.now place) }
 {
-    if is_meta(mark.id) {
+    if mark.id >= FIRST_META {
         meta_value(alloc, now, mark.id, metas)
     } else {
         topic_value(alloc, table, mark, place)
@@ -285,11 +250,11 @@ fn text_of(alloc: Global, table: &Table, marks: &[Mark], key: &Key) -> Result<Se
     ensures { IfOk result (λ m. (metas : List MetaNow)
         → m ≡ text_of (record { topics = table.now.topics; metas = metas }) marks.now key.now) }
 {
-    match mark_at(marks, key.topic()) {
-        Some(mark) => text_by(alloc, table, mark, key.tells(), key.place()),
+    match mark_at(marks, key.topic) {
+        Some(mark) => text_by(alloc, table, mark, key.kind, key.place),
         None => Ok(ServerMsg::Unannounce {
             name: Name::of(alloc, "")?,
-            id: i64::from(key.topic()),
+            id: i64::from(key.topic),
         }),
     }
 }
@@ -308,9 +273,9 @@ fn value_of(
         ≡ value_of (record { topics = table.now.topics; metas = metas.now })
         now marks.now key.now) }
 {
-    match mark_at(marks, key.topic()) {
-        Some(mark) => value_by(alloc, table, metas, now, mark, key.place()),
-        None => Ok(no_value(key.topic())),
+    match mark_at(marks, key.topic) {
+        Some(mark) => value_by(alloc, table, metas, now, mark, key.place),
+        None => Ok(no_value(key.topic)),
     }
 }
 

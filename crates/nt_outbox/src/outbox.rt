@@ -1,42 +1,65 @@
 //! What one connection is owed.
 
-ghost use Rattle.std.specs.Prelude.{◌≡◌, ◌≤◌, ◌↔◌, true, false, [], length, IfOk, OnOk, OnErr, None, option_copied};
-ghost use Rattle.nt_outbox.specs.Calls.{nothing_owed, behind, noted, rewanted_to, meta_rewanted, meta_changed, meta_ended, keys_of, weight_of, drained, drained_batch};
-ghost use Rattle.nt_outbox.specs.Replies.{replied_to};
+ghost use Rattle.std.specs.Prelude.{◌≡◌, ◌≤◌, ◌↔◌, true, false, [], length, IfOk, OnOk, OnErr, None, option_copied, is_some, not, take};
+ghost use Rattle.nt_rules.specs.outbox.Calls.{nothing_owed, id_of, behind, moved, called, noted, rewanted_to, meta_rewanted, meta_changed, meta_ended, keys_of, weight_of, drained, drained_batch};
+ghost use Rattle.nt_rules.specs.outbox.Marks.{keys, handed_all, weight};
+ghost use Rattle.nt_rules.specs.outbox.Messages.{batch_of};
+ghost use Rattle.nt_rules.specs.outbox.Replies.{replied_to};
+ghost use Rattle.nt_outbox.specs.Steps.{after, at_known, RiseFrom};
 
-use crate::batch::{Batch, Reply};
-use crate::kept::Kept;
-use nt_meta::MetaNow;
+use crate::call::{meta_step, meta_wish, setting, turn_step, value_step};
+use crate::delivery::hand_all;
+use crate::mark::Mark;
+use crate::marks::change;
+use crate::message::batch_of;
+use crate::queue::{count, keys};
+use crate::step::Step;
+use crate::weight::weight;
+use nt_rules::{Batch, Change, MOST_WEIGHT, MetaNow, Publish, Reply, Topic};
 use nt_subs::Wanted;
-use nt_table::{Change, Table, Topic};
+use nt_table::Table;
 use nt_topics::Update;
 use std::alloc::{AllocError, Global};
 use std::marker::Model;
+use std::mem;
 
 /// What one connection is owed. Its calls come at places, the positions of entries in their order.
 ///
 /// An outbox that met want of memory has failed for good: it holds nothing any more, and each later
-/// call that changes it fails too.
-#[derive(Debug, Drop)]
+/// call that changes it fails too. So does one for which more would wait than a weight of 64 bits
+/// tells, which fits into no memory.
+#[derive(Drop)]
 pub struct Outbox {
     failed: bool,
-    kept: Kept,
+    /// The place of the last call.
+    place: u64,
+    /// The weight with which the connection fell behind at a place before that one.
+    fell: Option<u64>,
+    /// The topics of which something is kept, by rising id.
+    marks: Vec<Mark>,
+    /// The weight of what is queued.
+    weight: u64,
 }
 
 impl Model for Outbox {
-    ghost use Rattle.nt_outbox.specs.Calls.{Box};
+    ghost use Rattle.nt_rules.specs.outbox.Calls.{OutboxState};
     ghost use Rattle.nt_topics.specs.contracts.properties.Update as update;
     ghost use Rattle.std.specs.Coded.{codes};
 
-    ghost Value = { Box };
+    ghost Value = { OutboxState };
 
     ghost coded = { Prim.hlevel (codes, update.the_row.coded) };
 
-    ghost use Rattle.nt_outbox.specs.Steps.{box_of, IsSound};
+    ghost use Rattle.nt_outbox.specs.Steps.{IsSound};
 
-    ghost view = { λ o. record (box_of o.kept) { failed = o.failed } };
+    ghost view = { λ o. record {
+      failed = o.failed;
+      place = o.place;
+      fell = o.fell;
+      marks = o.marks.items;
+    } };
 
-    ghost invariant = { λ o. IsSound o.kept };
+    ghost invariant = { λ o. IsSound o.marks.items o.weight };
 }
 
 impl Outbox {
@@ -46,12 +69,78 @@ impl Outbox {
     {
         Outbox {
             failed: false,
-            kept: Kept::new(alloc),
+            place: 0,
+            fell: None,
+            marks: Vec::new(alloc),
+            weight: 0,
         }
     }
 
-    /// A change of the table at a place, of a topic that is wanted so much from now on. It fails
-    /// for want of memory alone.
+    /// Want of memory was met: nothing is kept any more, and each later call fails.
+    fn fail(&mut self) -> AllocError
+        ensures { self.new.failed ≡ true }
+    {
+        self.failed = true;
+        self.marks.clear();
+        self.weight = 0;
+        AllocError
+    }
+
+    /// Begins a call at a place, and says whether the connection may be owed something: it hadn't
+    /// fallen behind before. One that had keeps nothing.
+    fn reach(&mut self, place: u64) -> bool
+        ensures open { result ≡ not (is_some (moved place self.old).fell) }
+        ensures owed { self.new ≡ called place (λ marks. marks) self.old }
+    {
+        if self.place < place {
+            self.fell = self.behind();
+            self.place = place;
+        }
+        if self.fell.is_some() {
+            self.marks.clear();
+            self.weight = 0;
+            return false;
+        }
+        true
+    }
+
+    /// A step at a place changes the topic of this id and name. Without an id none changes.
+    fn call(
+        &mut self,
+        alloc: Global,
+        place: u64,
+        id: Option<u32>,
+        name: &str,
+        step: Step,
+    ) -> Result<(), AllocError>
+        ensures owed { OnOk result
+            (self.new ≡ called place (at_known id name.now (after step)) self.old) }
+        ensures well { OnOk result (self.old.failed ≡ false) }
+        ensures still_well { OnOk result (self.new.failed ≡ false) }
+        ensures failed { OnErr result (self.new.failed ≡ true) }
+    {
+        if self.failed {
+            return Err(AllocError);
+        }
+        if !self.reach(place) {
+            return Ok(());
+        }
+        let Some(id) = id else {
+            return Ok(());
+        };
+        let mut marks = mem::replace(&mut self.marks, Vec::new(alloc));
+        let queued = mem::replace(&mut self.weight, 0);
+        match change(alloc, &mut marks, queued, id, name, step) {
+            Ok(weight) => {
+                self.marks = marks;
+                self.weight = weight;
+                Ok(())
+            }
+            Err(_) => Err(self.fail()),
+        }
+    }
+
+    /// A change of the table at a place, of a topic that is wanted so much from now on.
     pub fn note(
         &mut self,
         alloc: Global,
@@ -64,21 +153,36 @@ impl Outbox {
         ensures still_well { OnOk result (self.new.failed ≡ false) }
         ensures failed { OnErr result (self.new.failed ≡ true) }
     {
-        if self.failed {
-            return Err(AllocError);
-        }
-        match self.kept.note(alloc, place, change, wanted) {
-            Ok(()) => Ok(()),
-            Err(error) => {
-                self.failed = true;
-                self.kept = Kept::new(alloc);
-                Err(error)
+        match change {
+            Change::Started { id, name, .. } => {
+                self.call(alloc, place, id_of(*id), name.as_str(), Step::Wish(wanted))
+            }
+            Change::Changed {
+                id,
+                name,
+                time,
+                value,
+            } => {
+                let Ok(step) = value_step(alloc, place, *time, value, wanted) else {
+                    return Err(self.fail());
+                };
+                self.call(alloc, place, id_of(*id), name.as_str(), step)
+            }
+            Change::Props { id, name, update } => {
+                let Ok(setting) = setting(place, false, update) else {
+                    return Err(self.fail());
+                };
+                let step = Step::Told(setting, wanted);
+                self.call(alloc, place, id_of(*id), name.as_str(), step)
+            }
+            Change::Ended { id, name } => {
+                self.call(alloc, place, id_of(*id), name.as_str(), Step::Ended(place))
             }
         }
     }
 
     /// The answer at a place to the connection's own message about a topic. One to a change of
-    /// properties comes with the update that it tells. It fails for want of memory alone.
+    /// properties comes with the update that it tells.
     pub fn reply(
         &mut self,
         alloc: Global,
@@ -93,21 +197,23 @@ impl Outbox {
         ensures still_well { OnOk result (self.new.failed ≡ false) }
         ensures failed { OnErr result (self.new.failed ≡ true) }
     {
-        if self.failed {
-            return Err(AllocError);
-        }
-        match self.kept.reply(alloc, place, topic, reply, update) {
-            Ok(()) => Ok(()),
-            Err(error) => {
-                self.failed = true;
-                self.kept = Kept::new(alloc);
-                Err(error)
+        let step = match (reply, update) {
+            (Reply::Publish(uid), _) => Step::Published(Publish { place, uid }),
+            (Reply::Ack, Some(update)) => {
+                let Ok(setting) = setting(place, true, update) else {
+                    return Err(self.fail());
+                };
+                Step::OwnSetting(setting)
             }
-        }
+            (Reply::Ack, None) => {
+                return if self.failed { Err(AllocError) } else { Ok(()) };
+            }
+        };
+        self.call(alloc, place, Some(topic.id), topic.name.as_str(), step)
     }
 
     /// How much a topic is wanted changed at a place. Its held value, where it holds one, was taken
-    /// at the place `taken`. It fails for want of memory alone.
+    /// at the place `taken`.
     pub fn rewant(
         &mut self,
         alloc: Global,
@@ -122,20 +228,13 @@ impl Outbox {
         ensures still_well { OnOk result (self.new.failed ≡ false) }
         ensures failed { OnErr result (self.new.failed ≡ true) }
     {
-        if self.failed {
-            return Err(AllocError);
-        }
-        match self.kept.rewant(alloc, place, topic, taken, old, new) {
-            Ok(()) => Ok(()),
-            Err(error) => {
-                self.failed = true;
-                self.kept = Kept::new(alloc);
-                Err(error)
-            }
-        }
+        let Ok(step) = turn_step(alloc, topic, taken, old, new) else {
+            return Err(self.fail());
+        };
+        self.call(alloc, place, Some(topic.id), topic.name.as_str(), step)
     }
 
-    /// How much a meta topic is wanted changed at a place. It fails for want of memory alone.
+    /// How much a meta topic is wanted changed at a place.
     pub fn meta_rewant(
         &mut self,
         alloc: Global,
@@ -149,21 +248,11 @@ impl Outbox {
         ensures still_well { OnOk result (self.new.failed ≡ false) }
         ensures failed { OnErr result (self.new.failed ≡ true) }
     {
-        if self.failed {
-            return Err(AllocError);
-        }
-        match self.kept.meta_rewant(alloc, place, meta, old, new) {
-            Ok(()) => Ok(()),
-            Err(error) => {
-                self.failed = true;
-                self.kept = Kept::new(alloc);
-                Err(error)
-            }
-        }
+        let step = meta_step(old, new);
+        self.call(alloc, place, Some(meta.id), meta.name.as_str(), step)
     }
 
-    /// The bytes of a meta topic changed at a place, and it is wanted so much. It fails for want of
-    /// memory alone.
+    /// The bytes of a meta topic changed at a place, and it is wanted so much.
     pub fn meta_changed(
         &mut self,
         alloc: Global,
@@ -176,51 +265,38 @@ impl Outbox {
         ensures still_well { OnOk result (self.new.failed ≡ false) }
         ensures failed { OnErr result (self.new.failed ≡ true) }
     {
-        if self.failed {
-            return Err(AllocError);
-        }
-        match self.kept.meta_changed(alloc, place, meta, wanted) {
-            Ok(()) => Ok(()),
-            Err(error) => {
-                self.failed = true;
-                self.kept = Kept::new(alloc);
-                Err(error)
-            }
-        }
+        let step = Step::MetaChanged(meta_wish(wanted));
+        self.call(alloc, place, Some(meta.id), meta.name.as_str(), step)
     }
 
-    /// The meta topic of this id ended at a place. It fails for want of memory alone.
+    /// The meta topic of this id ended at a place.
     pub fn meta_ended(&mut self, alloc: Global, place: u64, id: u32) -> Result<(), AllocError>
         ensures owed { OnOk result (self.new ≡ meta_ended place id self.old) }
         ensures well { OnOk result (self.old.failed ≡ false) }
         ensures still_well { OnOk result (self.new.failed ≡ false) }
         ensures failed { OnErr result (self.new.failed ≡ true) }
     {
-        if self.failed {
-            return Err(AllocError);
-        }
-        match self.kept.meta_ended(alloc, place, id) {
-            Ok(()) => Ok(()),
-            Err(error) => {
-                self.failed = true;
-                self.kept = Kept::new(alloc);
-                Err(error)
-            }
-        }
+        self.call(alloc, place, Some(id), "", Step::Ended(place))
     }
 
     /// How many messages are owed: 0 where the connection has fallen behind.
     pub fn pending(&self) -> u64
         ensures { result ≡ length (keys_of self.now) }
     {
-        self.kept.pending()
+        if self.behind().is_some() {
+            return 0;
+        }
+        count(&self.marks)
     }
 
     /// The weight of what is queued: 0 where the connection has fallen behind.
     pub fn queued(&self) -> u64
         ensures { result ≡ weight_of self.now }
     {
-        self.kept.queued()
+        if self.behind().is_some() {
+            return 0;
+        }
+        self.weight
     }
 
     /// The weight with which the connection has fallen behind: that after the last call of the
@@ -228,13 +304,17 @@ impl Outbox {
     pub fn behind(&self) -> Option<u64>
         ensures { result ≡ behind self.now }
     {
-        self.kept.behind()
+        match self.fell {
+            Some(weight) => Some(weight),
+            None if self.weight > MOST_WEIGHT => Some(self.weight),
+            None => None,
+        }
     }
 
     /// Hands the first messages that are owed, at most `budget`, as the table and the meta topics
     /// tell them now: ends, then answers and changes of properties, then announces, then values. A
     /// value of a meta topic has `now`, in microseconds, as its time. Nothing is handed exactly
-    /// where nothing is owed. It fails for want of memory alone.
+    /// where nothing is owed.
     pub fn drain(
         &mut self,
         alloc: Global,
@@ -257,13 +337,49 @@ impl Outbox {
         if self.failed {
             return Err(AllocError);
         }
-        match self.kept.drain(alloc, now, budget, table, metas) {
-            Ok(batch) => Ok(batch),
-            Err(error) => {
-                self.failed = true;
-                self.kept = Kept::new(alloc);
-                Err(error)
+        let mut marks = mem::replace(&mut self.marks, Vec::new(alloc));
+        self.weight = 0;
+        match hand(alloc, now, budget, table, metas, &mut marks) {
+            Ok((batch, weight)) => {
+                self.marks = marks;
+                self.weight = weight;
+                Ok(batch)
             }
+            Err(_) => Err(self.fail()),
         }
     }
+}
+
+/// The id of a topic, where the number is one.
+fn id_of(id: i64) -> Option<u32>
+    ensures { result ≡ id_of id }
+{
+    u32::try_from(id).ok()
+}
+
+/// Hands the first messages that are owed, at most so many, takes them out, and answers the weight
+/// of what is queued then.
+fn hand(
+    alloc: Global,
+    now: u64,
+    budget: u32,
+    table: &Table,
+    metas: &[MetaNow],
+    marks: &mut Vec<Mark>,
+) -> Result<(Batch, u64), AllocError>
+    requires { RiseFrom 0 marks.old.items }
+    ensures batch { IfOk result (λ r. r.0 ≡ batch_of
+        (record { topics = table.now.topics; metas = metas.now })
+        now marks.old.items (take budget (keys marks.old.items))) }
+    ensures marks { OnOk result (marks.new.items
+        ≡ handed_all (take budget (keys marks.old.items)) marks.old.items) }
+    ensures rising { OnOk result (RiseFrom 0 marks.new.items) }
+    ensures weight { IfOk result (λ r. r.1 ≡ weight marks.new.items) }
+{
+    let mut keys = keys(alloc, marks)?;
+    keys.truncate(budget as usize);
+    let batch = batch_of(alloc, table, metas, now, marks, &keys)?;
+    hand_all(alloc, marks, &keys);
+    let weight = weight(marks)?;
+    Ok((batch, weight))
 }

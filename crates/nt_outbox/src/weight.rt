@@ -1,17 +1,14 @@
 //! What messages weigh.
 
-ghost use Rattle.std.specs.Prelude.{◌≡◌, ◌+◌, ◌*◌, length, IfOk};
-ghost use Rattle.serde_json.specs.Written.{compact_text};
-ghost use Rattle.nt_values.specs.Types.{size_of};
-ghost use Rattle.nt_outbox.specs.Marks.{mark_weight, settings_weight, values_weight, weight};
+ghost use Rattle.std.specs.Prelude.{◌≡◌, ◌+◌, IfOk};
+ghost use Rattle.nt_rules.specs.outbox.Marks.{mark_weight, settings_weight, values_weight, weight};
 
-use crate::mark::{Mark, Placed, Setting};
-use nt_topics::Update;
-use nt_values::Value;
+use crate::mark::Mark;
+use nt_rules::{Placed, Setting};
 use std::alloc::AllocError;
 
 /// What each queued message weighs beside what it tells.
-const LEAST: u64 = 64;
+pub const LEAST: u64 = 64;
 
 /// The sum of two weights. One of more than 64 bits, which nothing that fits into memory has, is
 /// told as want of memory.
@@ -21,34 +18,13 @@ pub fn sum(a: u64, b: u64) -> Result<u64, AllocError>
     a.checked_add(b).ok_or(AllocError)
 }
 
-/// The weight of so many ends or answers to publishes.
-pub fn plain_weight(count: usize) -> Result<u64, AllocError>
-    ensures { IfOk result (λ w. w ≡ 64 * count) }
-{
-    LEAST.checked_mul(count as u64).ok_or(AllocError)
-}
-
-/// The weight of a change of properties.
-pub fn update_weight(update: &Update) -> Result<u64, AllocError>
-    ensures { IfOk result (λ w. w ≡ 64 + length (compact_text update.now)) }
-{
-    sum(LEAST, update.text_len())
-}
-
-/// The weight of a value.
-pub fn value_weight(value: &Value) -> Result<u64, AllocError>
-    ensures { IfOk result (λ w. w ≡ 64 + size_of value.now) }
-{
-    sum(LEAST, value.size())
-}
-
 /// The weight of changes of properties.
-pub fn settings_weight(settings: &[Setting]) -> Result<u64, AllocError>
+fn settings_weight(settings: &[Setting]) -> Result<u64, AllocError>
     ensures { IfOk result (λ w. w ≡ settings_weight settings.now) }
 {
     let mut weight = 0;
     for setting in settings {
-        weight = sum(weight, update_weight(&setting.update)?)?;
+        weight = sum(weight, sum(LEAST, setting.update.text_len())?)?;
     }
     Ok(weight)
 }
@@ -59,7 +35,7 @@ pub fn values_weight(values: &[Placed]) -> Result<u64, AllocError>
 {
     let mut weight = 0;
     for placed in values {
-        weight = sum(weight, value_weight(&placed.value)?)?;
+        weight = sum(weight, sum(LEAST, placed.value.size())?)?;
     }
     Ok(weight)
 }
@@ -68,8 +44,9 @@ pub fn values_weight(values: &[Placed]) -> Result<u64, AllocError>
 pub fn mark_weight(mark: &Mark) -> Result<u64, AllocError>
     ensures { IfOk result (λ w. w ≡ mark_weight mark.now) }
 {
-    let plain = plain_weight(usize::from(mark.over.is_some()))?;
-    let plain = sum(plain, plain_weight(mark.publishes.as_slice().len())?)?;
+    let publishes = mark.publishes.as_slice().len() as u64;
+    let plain = sum(u64::from(mark.over.is_some()), publishes)?;
+    let plain = LEAST.checked_mul(plain).ok_or(AllocError)?;
     let weight = sum(plain, settings_weight(mark.settings.as_slice())?)?;
     sum(weight, values_weight(mark.values.as_slice())?)
 }

@@ -1,8 +1,10 @@
 pub mod Counts
 pub mod Lists
+pub mod Numbers
 pub mod Persistent
 pub mod Restoring
+pub mod Resubscribing
 pub mod RosterRows
-pub mod Rows
 pub mod Searching
+pub mod Sendable
 pub mod Stepping

@@ -1,8 +1,8 @@
 -- Topics that are saved.
 use Rattle.std.proofs.Common.{◌≡◌, Bool, true, false, cond, List, [], ◌∷◌, ◌++◌, filter, map, refl}
 use Rattle.nt_topics.specs.Properties.{is_persistent}
-use Rattle.nt_table.specs.declared.topic.Topic.{Topic}
-use Rattle.nt_history.specs.Saved.{saved_topic, persistent_ones}
+use Rattle.nt_rules.specs.declared.topic.Topic.{Topic}
+use Rattle.nt_rules.specs.history.Saved.{saved_topic, persistent_ones}
 
 -- one topic, and then others
 pub saved_more : (t : Topic) (ts : List Topic)

@@ -4,12 +4,12 @@ use Rattle.std.specs.List.{list_any, AllByRecursion}
 use Rattle.std.proofs.lemmas.List.Folds.{list_any-append}
 use Rattle.std.proofs.lemmas.Cmp.{nat_list_eq_equiv}
 use Rattle.nt_values.specs.declared.value.Value.{Value}
-use Rattle.nt_table.specs.declared.topic.Topic.{Topic}
-use Rattle.nt_table.specs.declared.topic.Saved.{Saved}
-use Rattle.nt_table.specs.Topics.{is_named, at_zero, restored_topic, restored as restored_in}
-use Rattle.nt_table.specs.Puts.{timed, greatest}
-use Rattle.nt_history.specs.Lives.{topics, topic_of, restored_life, restored_put, restored}
-use Rattle.nt_history.specs.Saved.{HasDistinctNames, IsRestorable, IsSavedSet}
+use Rattle.nt_rules.specs.declared.topic.Topic.{Topic}
+use Rattle.nt_rules.specs.declared.topic.Saved.{Saved}
+use Rattle.nt_rules.specs.topics.Topics.{is_named, at_zero, restored_topic, restored as restored_in}
+use Rattle.nt_rules.specs.topics.Puts.{timed, greatest}
+use Rattle.nt_rules.specs.history.Lives.{topics, topic_of, restored_life, restored_put, restored}
+use Rattle.nt_rules.specs.history.Saved.{HasDistinctNames, IsRestorable, IsSavedSet}
 
 -- the topics so far and those that follow are all that were saved
 pub record IsRestoring (ts : List Topic) (next : ℕ) (rest saved : List Saved) : Type 0 where

@@ -1,25 +1,33 @@
--- What changes nothing that the meta topics tell of.
+-- The rows that the meta topics tell of, and what changes nothing of them.
 use Rattle.std.proofs.Common.{◌≡◌, ℕ, ℤ, Bool, true, false, cond, List, [], ◌∷◌, ◌++◌, Some, filter, map, refl, sym, ◌∙◌, ap}
 use Rattle.std.specs.List.{flat_map}
 use Rattle.nt_values.specs.declared.value.Value.{Value}
 use Rattle.nt_control.specs.declared.message.ClientMsg.TheVariants.{Publish, Unpublish, SetProps, Subscribe, Unsubscribe}
 use Rattle.nt_subs.specs.Subscriptions.{Subs}
 use Rattle.nt_subs.specs.Wishes.{wanted}
-use Rattle.nt_table.specs.declared.topic.Topic.{Topic}
-use Rattle.nt_table.specs.declared.topic.Change.{Change}
-use Rattle.nt_table.specs.Topics.{has_publisher, is_of, change_first, with_value, with_put}
-use Rattle.nt_meta.specs.declared.roster.ConnRow.{ConnRow}
-use Rattle.nt_meta.specs.declared.roster.PubRow.{PubRow}
-use Rattle.nt_meta.specs.declared.roster.LifeRow.{LifeRow}
-use Rattle.nt_meta.specs.declared.meta.MetaNow.{MetaNow}
-use Rattle.nt_meta.specs.Meta.{metas}
-use Rattle.nt_outbox.specs.Calls.{Box}
-use Rattle.nt_history.specs.declared.act.Msg.{Msg}
-use Rattle.nt_history.specs.declared.act.Msg.TheVariants.{Control, Put}
-use Rattle.nt_history.specs.declared.kept.Open.{Open}
-use Rattle.nt_history.specs.declared.kept.Taken.{Taken}
-use Rattle.nt_history.specs.Metas.{life_row, sub_row, pub_row, by_uid}
-use Rattle.nt_history.specs.State.{is_number, with_outbox, open_row, metas_kept, differences, told_differences, refreshed, rewanted_all, meta_rewanted_all, rewanting, told_changes, told_sender, told_said, drained_by, drained_from}
+use Rattle.nt_rules.specs.declared.topic.Topic.{Topic}
+use Rattle.nt_rules.specs.declared.topic.Change.{Change}
+use Rattle.nt_rules.specs.topics.Topics.{has_publisher, is_of, change_first, with_value, with_put}
+use Rattle.nt_rules.specs.declared.roster.ConnRow.{ConnRow}
+use Rattle.nt_rules.specs.declared.roster.PubRow.{PubRow}
+use Rattle.nt_rules.specs.declared.roster.LifeRow.{LifeRow}
+use Rattle.nt_rules.specs.declared.meta.MetaNow.{MetaNow}
+use Rattle.nt_rules.specs.meta.Meta.{metas}
+use Rattle.nt_rules.specs.outbox.Calls.{OutboxState}
+use Rattle.nt_rules.specs.declared.act.Msg.{Msg}
+use Rattle.nt_rules.specs.declared.act.Msg.TheVariants.{Control, Put}
+use Rattle.nt_rules.specs.history.State.{Open}
+use Rattle.nt_rules.specs.declared.taken.Taken.{Taken}
+use Rattle.nt_rules.specs.meta.Order.{insert_after, insert_all, pub_below}
+use Rattle.nt_rules.specs.history.Metas.{life_row, sub_row, pub_row}
+use Rattle.nt_server.specs.Connections.{Connections}
+use Rattle.nt_rules.specs.history.State.{is_number, with_outbox, open_row, metas_kept, differences, told_differences, refreshed, rewanted_all, meta_rewanted_all, rewanting, told_changes, told_sender, told_said, drained_by, drained_from}
+
+-- rows of two lists are put there one list after the other
+pub rows_more : {X : Type 0} (below : X → X → Bool) (rows a b : List X)
+    → insert_all below rows (a ++ b) ≡ insert_all below (insert_all below rows a) b
+rows_more below rows [] b = refl
+rows_more below rows (r ∷ a) b = rows_more below (insert_after below r rows) a b
 
 -- a change of each connection that its row doesn't tell of
 rows_same : (ts : List Topic) (f : Open → Open) → ((o : Open) → open_row ts (f o) ≡ open_row ts o)
@@ -37,7 +45,7 @@ metas_same ts f same opens =
     (rows_same ts f same opens)
 
 -- other outboxes
-pub metas_told : (ts : List Topic) (f : Open → Box) (opens : List Open)
+pub metas_told : (ts : List Topic) (f : Open → OutboxState) (opens : List Open)
     → metas_kept (map (λ o. with_outbox (f o) o) opens) ts ≡ metas_kept opens ts
 metas_told ts f opens = metas_same ts (λ o. with_outbox (f o) o) (λ o. refl) opens
 
@@ -84,7 +92,7 @@ renewed place before taken ts conn old opens after wanting told a w t =
     others : List Open
     others = rewanting place taken ts (metas_kept opens ts) conn old opens
 
-    box : List MetaNow → Open → Box
+    box : List MetaNow → Open → OutboxState
     box ms o = told_differences place (wanted o.subs) (differences before ms) o.outbox
 
     tell : List MetaNow → Open → Open
@@ -97,7 +105,7 @@ renewed place before taken ts conn old opens after wanting told a w t =
     all = t ∙ ap (map (tell after)) (w ∙ ap (λ ms. rewanting place taken ts ms conn old opens) a)
 
 -- a message that counted, told to a connection
-told_row : (us : List Topic) (place : ℕ) (ts : List Topic) (conn : ℕ) (m : Msg) (changes : List Change)
+pub told_row : (us : List Topic) (place : ℕ) (ts : List Topic) (conn : ℕ) (m : Msg) (changes : List Change)
     (o : Open) → open_row us (told_said place ts conn m changes o) ≡ open_row us o
 told_row us place ts conn m changes o = by (is_number conn o)
   where
@@ -133,6 +141,11 @@ pub metas_drained : (us : List Topic) (conn budget : ℕ) (opens : List Open)
     → metas_kept (map (drained_from conn budget) opens) us ≡ metas_kept opens us
 metas_drained us conn budget opens =
     metas_same us (drained_from conn budget) (drained_row us conn budget) opens
+
+pub drained-metas : (us : List Topic) (k : Connections) (conn budget : ℕ) (b : Bool)
+    → metas_kept (cond b (record k { opens = map (drained_from conn budget) k.opens }) k).opens us ≡ metas_kept k.opens us
+drained-metas us k conn budget true = metas_drained us conn budget k.opens
+drained-metas us k conn budget false = refl
 
 -- ---- a put
 
@@ -172,7 +185,7 @@ rows_put : (conn : ℕ) (uid : ℤ) (time : ℕ) (value : Value) (ts : List Topi
 rows_put conn uid time value ts [] = refl
 rows_put conn uid time value ts (o ∷ opens) =
     ap (λ r. r ∷ map (open_row (with_put ts conn uid time value)) opens)
-    (ap (λ (ps : List PubRow). row (by_uid ps)) (pubs_put o.conn (has_publisher conn uid) time value ts))
+    (ap (λ (ps : List PubRow). row (insert_all pub_below [] ps)) (pubs_put o.conn (has_publisher conn uid) time value ts))
     ∙ ap (λ rs. open_row ts o ∷ rs) (rows_put conn uid time value ts opens)
   where
     row : List PubRow → ConnRow

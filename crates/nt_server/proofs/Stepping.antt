@@ -1,32 +1,33 @@
 -- What a step answers, by what its arms do to what is kept.
 use Rattle.std.proofs.Common.{◌≡◌, ◌<◌, ◌+◌, ◌^◌, ℕ, Bool, false, max, List, [], Result, Ok, Err, IfOk, OnOk, length, refl, sym, ap, subst, ◌∙◌}
 use Rattle.std.specs.Result.{is_err}
-use Rattle.nt_history.specs.declared.act.Act.{Act}
-use Rattle.nt_history.specs.declared.act.Entry.{Entry}
-use Rattle.nt_server.specs.declared.step.Stepped.{Stepped}
-use Rattle.nt_table.specs.declared.topic.Topic.{Topic}
-use Rattle.nt_table.specs.declared.topic.Saved.{Saved}
-use Rattle.nt_history.specs.Lives.{topics, restored}
-use Rattle.nt_history.specs.Now.{Start, beginning}
-use Rattle.nt_history.specs.Saved.{IsSavedSet}
+use Rattle.nt_rules.specs.declared.act.Act.{Act}
+use Rattle.nt_rules.specs.declared.act.Entry.{Entry}
+use Rattle.nt_server.specs.declared.acts.Stepped.{Stepped}
+use Rattle.nt_rules.specs.declared.topic.Topic.{Topic}
+use Rattle.nt_rules.specs.declared.topic.Saved.{Saved}
+use Rattle.nt_rules.specs.history.Lives.{topics, restored}
+use Rattle.nt_rules.specs.declared.start.Start.{Start}
+use Rattle.nt_rules.specs.history.Now.{beginning}
+use Rattle.nt_rules.specs.history.Saved.{IsSavedSet}
 use Rattle.nt_server.specs.View.{begun}
-use Rattle.nt_history.specs.Answer.{entry}
-use Rattle.nt_history.specs.Changes.{added_changes}
-use Rattle.nt_history.specs.State.{reply, acted, changes_by}
-use Rattle.nt_history.specs.Step.{Kept, Core, Stands, Steps, MayAct, core_of}
-use Rattle.nt_history.proofs.CoreLaws.{core-begun}
-use Rattle.nt_history.proofs.StepLaw.{stands-begun}
-use Rattle.nt_history.proofs.Looked.{looked-changes}
-use Rattle.nt_history.proofs.Owing.{step-acted}
+use Rattle.nt_rules.specs.history.Answer.{entry}
+use Rattle.nt_rules.specs.history.Changes.{added_changes}
+use Rattle.nt_rules.specs.history.State.{reply, acted, changes_by}
+use Rattle.nt_rules.specs.history.Step.{ServerState, Core, Represents, Steps, MayAct, core_of}
+use Rattle.nt_laws.proofs.histories.CoreLaws.{core-begun}
+use Rattle.nt_laws.proofs.histories.StepLaw.{represents-begun}
+use Rattle.nt_laws.proofs.histories.Inspection.{looked-changes}
+use Rattle.nt_laws.proofs.outboxes.OutboxesAfterAct.{step-acted}
 
 -- a server over restored topics stands for no entries
-pub stands-over : (permits : ℕ) (saved : List Saved) (ts : List Topic) (next : ℕ) (k : Kept) → IsSavedSet saved
+pub represents-over : (permits : ℕ) (saved : List Saved) (ts : List Topic) (next : ℕ) (k : ServerState) → IsSavedSet saved
     → k ≡ record { failed = false; state = record (begun permits []) { topics = ts; next = next } }
     → ts ≡ topics (restored 1 saved) → next ≡ length saved + 1
-    → Stands k (record { permits = permits; saved = saved }) []
-stands-over permits saved ts next k set is topics_are next_is =
-    subst (λ (k : Kept). Stands k start []) (sym is)
-    (stands-begun (record { failed = false; state = record (begun permits []) { topics = ts; next = next } }) start
+    → Represents k (record { permits = permits; saved = saved }) []
+represents-over permits saved ts next k set is topics_are next_is =
+    subst (λ (k : ServerState). Represents k start []) (sym is)
+    (represents-begun (record { failed = false; state = record (begun permits []) { topics = ts; next = next } }) start
     set refl core_is refl)
   where
     start : Start
@@ -52,38 +53,38 @@ stands-over permits saved ts next k set is topics_are next_is =
         ∙ ap (λ n. core_with (topics (restored 1 saved)) n) next_is
         ∙ sym (core-begun start)
 
-pub stands-restored : {E : Type 0} (permits : ℕ) (saved : List Saved) (ts : List Topic) (next : ℕ)
-    (r : Result Kept E) → IsSavedSet saved
+pub represents-restored : {E : Type 0} (permits : ℕ) (saved : List Saved) (ts : List Topic) (next : ℕ)
+    (r : Result ServerState E) → IsSavedSet saved
     → IfOk r (λ k. k ≡ record { failed = false; state = record (begun permits []) { topics = ts; next = next } })
     → ts ≡ topics (restored 1 saved) → next ≡ length saved + 1
-    → IfOk r (λ k. Stands k (record { permits = permits; saved = saved }) [])
-stands-restored permits saved ts next (Ok k) set is topics_are next_is =
-    stands-over permits saved ts next k set is topics_are next_is
-stands-restored permits saved ts next (Err error) set is topics_are next_is = tt
+    → IfOk r (λ k. Represents k (record { permits = permits; saved = saved }) [])
+represents-restored permits saved ts next (Ok k) set is topics_are next_is =
+    represents-over permits saved ts next k set is topics_are next_is
+represents-restored permits saved ts next (Err error) set is topics_are next_is = tt
 
 -- a server fails where its arms do
 pub well-after : {X E : Type 0} (r : Result X E) (b : Bool) → b ≡ is_err r → OnOk r (b ≡ false)
 well-after (Ok s) b e = e
 well-after (Err error) b e = tt
 
-module _ {E : Type 0} (old : Kept) (worker now : ℕ) (a : Act) where
-  pub step-steps : (r : Result Stepped E) (new : Kept) → MayAct a → now < 2 ^ 63
+module _ {E : Type 0} (old : ServerState) (worker now : ℕ) (a : Act) where
+  pub step-steps : (r : Result Stepped E) (new : ServerState) → MayAct a → now < 2 ^ 63
       → IfOk r (λ s. s.out ≡ reply old.state worker now a)
       → IfOk r (λ s. s.entry ≡ entry worker (max old.state.moment now) a s.out)
       → OnOk r (new.state ≡ acted old.state worker now a) → OnOk r (new.failed ≡ false)
-      → IfOk r (λ s. (start : Start) (past : List Entry) → Stands old start past
+      → IfOk r (λ s. (start : Start) (past : List Entry) → Represents old start past
       → Steps start past worker now a s.out s.entry new)
   step-steps (Ok s) new may small out_is entry_is state_is well =
-      λ start past stands.
-      step-acted start past old worker now a s.out s.entry new may small stands well out_is entry_is state_is
+      λ start past represents.
+      step-acted start past old worker now a s.out s.entry new may small represents well out_is entry_is state_is
   step-steps (Err error) new may small out_is entry_is state_is well = tt
 
   pub step-changes : (r : Result Stepped E)
       → IfOk r (λ s. s.entry ≡ entry worker (max old.state.moment now) a s.out)
       → IfOk r (λ s. s.changes ≡ changes_by old.state worker a)
-      → IfOk r (λ s. (start : Start) (past : List Entry) → Stands old start past
+      → IfOk r (λ s. (start : Start) (past : List Entry) → Represents old start past
       → s.changes ≡ added_changes start past s.entry)
   step-changes (Ok s) entry_is changes_are =
-      λ start past stands.
-      changes_are ∙ looked-changes old start past worker (max old.state.moment now) a s.out s.entry stands entry_is
+      λ start past represents.
+      changes_are ∙ looked-changes old start past worker (max old.state.moment now) a s.out s.entry represents entry_is
   step-changes (Err error) entry_is changes_are = tt

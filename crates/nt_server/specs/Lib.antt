@@ -1,3 +1,3 @@
-pub mod Rows
+pub mod Connections
 pub mod TakenPlaces
 pub mod View

@@ -1,19 +1,17 @@
 -- How the places of taken values stand, and where a search finds that of a topic.
 use Rattle.std.specs.Prelude.{◌≡◌, ◌≤◌, ◌<◌, ◌+◌, ℕ, List, [], ◌∷◌, Some, length, insert, remove, slice_set}
 use Rattle.std.specs.List.{slice_get}
-use Rattle.nt_history.specs.declared.kept.Taken.{Taken}
-use Rattle.nt_history.specs.State.{taken_at, with_taken, without_taken}
+use Rattle.nt_rules.specs.declared.taken.Taken.{Taken}
+use Rattle.nt_rules.specs.history.State.{taken_at, with_taken, without_taken}
 
--- the topics' ids rise, from this number on
-abbrev pub RiseFrom : ℕ → List Taken → Type 0
-RiseFrom n [] = Unit {0}
-RiseFrom n (t ∷ taken) = (n ≤ t.topic) × RiseFrom (t.topic + 1) taken
+abbrev pub id_of_place : Taken → ℕ
+id_of_place t = t.topic
 
 abbrev pub taken_of : ℕ → ℕ → Taken
 taken_of topic place = record { topic = topic; place = place }
 
 -- the place of the topic stands at this position
-pub record StandsAt (topic : ℕ) (taken : List Taken) (i : ℕ) : Type 0 where
+pub record IsFoundAt (topic : ℕ) (taken : List Taken) (i : ℕ) : Type 0 where
   pub within : i < length taken
   pub there : slice_get taken i ≡ Some (taken_of topic (taken_at topic taken))
   pub put : (place : ℕ) → slice_set taken i (taken_of topic place) ≡ with_taken topic place taken

@@ -1,17 +1,14 @@
 -- What the fields of a server say.
-use Rattle.std.specs.Prelude.{◌≡◌, ◌+◌, ℕ, false, List, [], length}
-use Rattle.nt_control.specs.declared.message.ClientMsg.TheVariants.{Subscribe, Unsubscribe}
-use Rattle.nt_table.specs.declared.topic.Change.{Change}
-use Rattle.nt_table.specs.declared.topic.Saved.{Saved}
-use Rattle.nt_table.specs.declared.topic.Outcome.{Outcome}
-use Rattle.nt_table.specs.declared.topic.Outcome.TheVariants.{Done, Ignored}
-use Rattle.nt_history.specs.declared.act.StepOut.{StepOut}
-use Rattle.nt_history.specs.declared.act.StepOut.TheVariants as out
-use Rattle.nt_history.specs.declared.act.Msg.{Msg}
-use Rattle.nt_history.specs.declared.act.Msg.TheVariants.{Control, Put}
+use Rattle.std.specs.Prelude.{◌≡◌, ◌+◌, ℕ, false, List, [], length, map}
+use Rattle.nt_rules.specs.declared.topic.Saved.{Saved}
+use Rattle.nt_rules.specs.declared.topic.Outcome.{Outcome}
+use Rattle.nt_rules.specs.declared.topic.Outcome.TheVariants.{Done, Ignored}
+use Rattle.nt_rules.specs.declared.act.Msg.{Msg}
+use Rattle.nt_rules.specs.declared.act.Msg.TheVariants.{Control, Put}
 use Rattle.nt_server.specs.declared.inner.Inner.{Inner}
-use Rattle.nt_history.specs.Lives.{topics, restored}
-use Rattle.nt_history.specs.State.{State, metas_kept}
+use Rattle.nt_rules.specs.history.Lives.{topics, restored}
+use Rattle.nt_rules.specs.declared.meta.MetaNow.{MetaNow}
+use Rattle.nt_rules.specs.history.State.{State, metas_kept, if_structural, told_said, taken_after}
 
 -- the state that the fields hold
 abbrev pub state_of : Inner → State
@@ -22,8 +19,8 @@ state_of i =
       shut = i.shut;
       moment = i.moment;
       place = i.place;
-      opened = i.opened;
-      opens = i.opens.items;
+      opened = i.connections.opened;
+      opens = i.connections.opens;
       topics = i.table.topics;
       next = i.table.next;
       taken = i.taken;
@@ -47,24 +44,19 @@ begun permits saved =
 
 -- the meta topics that are kept are those of the open connections and the living topics
 pub record IsKept (i : Inner) : Type 0 where
-  pub metas_are : i.metas ≡ metas_kept i.opens.items i.table.topics
+  pub metas_are : i.metas ≡ metas_kept i.connections.opens i.table.topics
 
--- a put leaves the meta topics as they are
-abbrev pub IsKeptAt : Msg → Inner → Type 0
-IsKeptAt (Put v) i = IsKept i
-IsKeptAt (Control m) i = Unit {0}
+-- where a message counted, the meta topics that are kept may be those before it, but for a put
+abbrev pub IsKeptAfter : Msg → Outcome → Inner → Type 0
+IsKeptAfter (Control m) (Done changes) i = Unit {0}
+IsKeptAfter (Control m) (Ignored cause) i = IsKept i
+IsKeptAfter (Put v) outcome i = IsKept i
 
--- what an outcome answers, and the changes that it made
-abbrev pub out_of : Outcome → StepOut
-out_of (Done changes) = out.Done
-out_of (Ignored cause) = out.Ignored cause
-
-abbrev pub changes_of : Outcome → List Change
-changes_of (Done changes) = changes
-changes_of (Ignored cause) = []
-
--- a message that is one to a topic, and not one on subscriptions
-abbrev pub IsToTopic : Msg → Type 0
-IsToTopic (Control (Subscribe uid sub)) = ⊥
-IsToTopic (Control (Unsubscribe uid)) = ⊥
-IsToTopic m = Unit {0}
+-- the state after a message to a topic was told, over the topics after it, where the meta topics were these before
+abbrev pub settled : List MetaNow → ℕ → ℕ → Msg → Outcome → State → State
+settled before place conn m (Done changes) s =
+    record s {
+      opens = if_structural m place before s.topics (map (told_said place s.topics conn m changes) s.opens);
+      taken = taken_after place changes s.taken;
+    }
+settled before place conn m (Ignored cause) s = s

@@ -1,23 +1,20 @@
 //! The server: each act of each connection is one entry of one history.
 #![tactic(auto)]
 
-mod difference;
-mod drain;
-mod hear;
+mod acts;
+mod connections;
+mod differences;
 mod inner;
-mod look;
+mod messages;
 mod names;
-mod refresh;
+mod open;
 mod restore;
-mod rewant;
 mod roster;
-mod said;
 mod saved;
 mod server;
-mod step;
 mod taken;
-mod told;
+mod telling;
+mod wishes;
 
-pub use nt_history::{Act, Deed, Entry, Msg, StepOut};
+pub use acts::Stepped;
 pub use server::Server;
-pub use step::Stepped;

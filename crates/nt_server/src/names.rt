@@ -1,10 +1,10 @@
 //! The name that a connection is given.
 
 ghost use Rattle.std.specs.Prelude.{◌≡◌, IfOk};
-ghost use Rattle.nt_history.specs.Answer.{is_used, numbered, given_name};
-ghost use Rattle.nt_history.specs.State.{given_names};
+ghost use Rattle.nt_rules.specs.history.Answer.{is_used, numbered, given_name};
+ghost use Rattle.nt_rules.specs.history.State.{given_names};
 
-use nt_history::Open;
+use crate::open::Open;
 use nt_topics::{ClientName, Name};
 use std::alloc::{AllocError, Global};
 

@@ -3,11 +3,12 @@
 ghost use Rattle.std.specs.Prelude.{◌≡◌, ◌+◌, false, None, length, IfOk, OnOk};
 ghost use Rattle.std.specs.List.{list_any};
 ghost use Rattle.nt_topics.specs.Names.{is_special};
-ghost use Rattle.nt_table.specs.Topics.{is_named, restore_cause, restored as restored_in};
-ghost use Rattle.nt_history.specs.Lives.{topics, restored};
-ghost use Rattle.nt_history.specs.Saved.{IsSavedSet};
+ghost use Rattle.nt_rules.specs.topics.Topics.{is_named, restore_cause, restored as restored_in};
+ghost use Rattle.nt_rules.specs.history.Lives.{topics, restored};
+ghost use Rattle.nt_rules.specs.history.Saved.{IsSavedSet};
 
-use nt_table::{Saved, Table};
+use nt_rules::Saved;
+use nt_table::Table;
 use std::alloc::{AllocError, Global};
 
 /// Begins a saved topic that no cause refuses. It fails for want of memory alone.

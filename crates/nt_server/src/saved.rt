@@ -3,9 +3,10 @@
 ghost use Rattle.std.specs.Prelude.{◌≡◌, [], ◌∷◌, ◌++◌, option_map, IfOk, OnOk};
 ghost use Rattle.std.specs.Ordering.{nat_cmp};
 ghost use Rattle.std.specs.Cmp.Lexicographic.{slice_cmp};
-ghost use Rattle.nt_history.specs.Saved.{saved_topic, persistent_ones, AreSaved};
+ghost use Rattle.nt_rules.specs.history.Saved.{saved_topic, persistent_ones, AreSaved};
 
-use nt_table::{Saved, Table, Timed, Topic};
+use nt_rules::{Saved, Timed, Topic};
+use nt_table::Table;
 use nt_values::Value;
 use std::alloc::{AllocError, Global};
 use std::cmp::Ordering;

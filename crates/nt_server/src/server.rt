@@ -1,30 +1,32 @@
 //! The server.
 
 ghost use Rattle.std.specs.Prelude.{◌≡◌, ◌<◌, ◌^◌, true, false, List, [], length, IfOk, OnOk, OnErr};
-ghost use Rattle.nt_history.specs.declared.act.Entry.{Entry};
-ghost use Rattle.nt_history.specs.Changes.{added_changes};
-ghost use Rattle.nt_history.specs.Lives.{topics};
-ghost use Rattle.nt_history.specs.Now.{Start, now_of};
-ghost use Rattle.nt_history.specs.Owed.{owed, queued, behind};
-ghost use Rattle.nt_history.specs.Saved.{IsSavedSet, AreSaved};
-ghost use Rattle.nt_history.specs.Step.{MayAct, Stands, Steps, IsEntryOf};
+ghost use Rattle.nt_rules.specs.declared.act.Entry.{Entry};
+ghost use Rattle.nt_rules.specs.topics.Apart.{AreApart};
+ghost use Rattle.nt_rules.specs.history.Changes.{added_changes};
+ghost use Rattle.nt_rules.specs.history.Lives.{topics};
+ghost use Rattle.nt_rules.specs.declared.start.Start.{Start};
+ghost use Rattle.nt_rules.specs.history.Now.{now_of};
+ghost use Rattle.nt_rules.specs.history.Owed.{owed, queued, behind};
+ghost use Rattle.nt_rules.specs.history.Saved.{IsSavedSet, AreSaved};
+ghost use Rattle.nt_rules.specs.history.Step.{MayAct, Represents, Steps, IsEntryOf};
 ghost use Rattle.nt_server.specs.View.{begun};
 
+use crate::acts::Stepped;
+use crate::connections::OpenConnections;
 use crate::inner::Inner;
-use crate::look::{fell_behind, pending, queued};
 use crate::restore::restored;
 use crate::roster::metas_of;
 use crate::saved::saved_of;
-use crate::step::Stepped;
 use crate::taken::TakenPlaces;
-use nt_history::Act;
-use nt_table::{Saved, Table};
+use nt_rules::{Act, Saved};
+use nt_table::Table;
 use std::alloc::{AllocError, Global};
 use std::marker::Model;
 
 /// The server. One that met want of memory has failed for good: nothing is said of what it keeps
 /// any more, and each later step fails too. Contracts see whether it failed, and its state.
-#[derive(Debug, Drop)]
+#[derive(Drop)]
 pub struct Server {
     failed: bool,
     inner: Inner,
@@ -32,11 +34,11 @@ pub struct Server {
 
 impl Model for Server {
     ghost use Rattle.std.specs.Prelude.{◌≡◌, false};
-    ghost use Rattle.nt_history.specs.Step.{Kept};
+    ghost use Rattle.nt_rules.specs.history.Step.{ServerState};
     ghost use Rattle.nt_topics.specs.contracts.properties.Props as props;
     ghost use Rattle.std.specs.Coded.{codes};
 
-    ghost Value = { Kept };
+    ghost Value = { ServerState };
 
     ghost use Rattle.nt_server.specs.View.{state_of, IsKept};
 
@@ -52,7 +54,7 @@ impl Server {
     /// memory alone.
     pub fn new(alloc: Global, permits: u32) -> Result<Server, AllocError>
         ensures { IfOk result
-            (λ s. Stands s (record { permits = permits; saved = [] }) []) }
+            (λ s. Represents s (record { permits = permits; saved = [] }) []) }
     {
         Server::over(alloc, permits, Table::new(alloc))
     }
@@ -63,7 +65,7 @@ impl Server {
     pub fn restore(alloc: Global, permits: u32, saved: Vec<Saved>) -> Result<Server, AllocError>
         requires { IsSavedSet saved.items }
         ensures { IfOk result
-            (λ s. Stands s (record { permits = permits; saved = saved.items }) []) }
+            (λ s. Represents s (record { permits = permits; saved = saved.items }) []) }
     {
         Server::over(alloc, permits, restored(alloc, saved)?)
     }
@@ -75,8 +77,7 @@ impl Server {
           state = record (begun permits []) { topics = table.topics; next = table.next };
         }) }
     {
-        let opens = Vec::new(alloc);
-        let metas = metas_of(alloc, &opens, &table)?;
+        let metas = metas_of(alloc, &[], &table)?;
         Ok(Server {
             failed: false,
             inner: Inner {
@@ -85,9 +86,8 @@ impl Server {
                 shut: false,
                 moment: 0,
                 place: 0,
-                opened: 0,
                 table,
-                opens,
+                connections: OpenConnections::new(alloc),
                 taken: TakenPlaces::new(alloc),
                 metas,
             },
@@ -111,11 +111,11 @@ impl Server {
         requires may { MayAct act }
         requires now { now < 2 ^ 63 }
         ensures steps { IfOk result (λ s. (start : Start) (past : List Entry)
-            → Stands self.old start past
+            → Represents self.old start past
             → Steps start past worker now act s.out s.entry self.new) }
         ensures entry { IfOk result (λ s. IsEntryOf worker now act s.out s.entry) }
         ensures changes { IfOk result (λ s. (start : Start) (past : List Entry)
-            → Stands self.old start past → s.changes ≡ added_changes start past s.entry) }
+            → Represents self.old start past → s.changes ≡ added_changes start past s.entry) }
         ensures well { OnOk result (self.old.failed ≡ false) }
         ensures still_well { OnOk result (self.new.failed ≡ false) }
         ensures failed { OnErr result (self.new.failed ≡ true) }
@@ -131,31 +131,40 @@ impl Server {
 
     /// How many messages the connection is owed: none where it isn't open, or fell behind.
     pub fn pending(&self, conn: u32) -> u64
-        ensures { (start : Start) (past : List Entry) → Stands self.now start past
+        ensures { (start : Start) (past : List Entry) → Represents self.now start past
             → result ≡ length (owed start past conn) }
     {
-        pending(&self.inner.opens, conn)
+        match self.inner.connections.outbox(conn) {
+            Some(outbox) => outbox.pending(),
+            None => 0,
+        }
     }
 
     /// What is queued for the connection weighs so much: nothing where it isn't open.
     pub fn queued(&self, conn: u32) -> u64
-        ensures { (start : Start) (past : List Entry) → Stands self.now start past
+        ensures { (start : Start) (past : List Entry) → Represents self.now start past
             → result ≡ queued start past conn }
     {
-        queued(&self.inner.opens, conn)
+        match self.inner.connections.outbox(conn) {
+            Some(outbox) => outbox.queued(),
+            None => 0,
+        }
     }
 
     /// The weight with which the connection, where it is open, fell behind.
     pub fn is_behind(&self, conn: u32) -> Option<u64>
-        ensures { (start : Start) (past : List Entry) → Stands self.now start past
+        ensures { (start : Start) (past : List Entry) → Represents self.now start past
             → result ≡ behind start past conn }
     {
-        fell_behind(&self.inner.opens, conn)
+        match self.inner.connections.outbox(conn) {
+            Some(outbox) => outbox.behind(),
+            None => None,
+        }
     }
 
     /// Whether the server is shut.
     pub fn is_shut(&self) -> bool
-        ensures { (start : Start) (past : List Entry) → Stands self.now start past
+        ensures { (start : Start) (past : List Entry) → Represents self.now start past
             → result ≡ (now_of start past).shut }
     {
         self.inner.shut
@@ -165,16 +174,18 @@ impl Server {
     /// values. It fails for want of memory alone.
     pub fn saved(&self, alloc: Global) -> Result<Vec<Saved>, AllocError>
         ensures { IfOk result (λ saved. (start : Start) (past : List Entry)
-            → Stands self.now start past
+            → Represents self.now start past
             → AreSaved (topics (now_of start past).lives) saved.items) }
     {
         saved_of(alloc, &self.inner.table)
     }
 
-    /// The table of topics.
+    /// The table of topics. They stand by rising id, and no two have one id or one name.
     pub fn table(&self) -> &Table
-        ensures { (start : Start) (past : List Entry) → Stands self.now start past
+        ensures topics { (start : Start) (past : List Entry) → Represents self.now start past
             → result.now.topics ≡ topics (now_of start past).lives }
+        ensures apart { (start : Start) (past : List Entry) → Represents self.now start past
+            → AreApart result.now.topics }
     {
         &self.inner.table
     }

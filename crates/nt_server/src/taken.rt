@@ -1,38 +1,39 @@
 //! At which places the held values were taken.
 
 ghost use Rattle.std.specs.Prelude.{◌≡◌, [], MatchResult, OnOk};
-ghost use Rattle.nt_outbox.specs.Calls.{id_of};
-ghost use Rattle.nt_history.specs.State.{taken_at, with_taken, without_taken, taken_by, taken_after};
-ghost use Rattle.nt_server.specs.TakenPlaces.{RiseFrom, StandsAt, IsMissedAt};
+ghost use Rattle.nt_rules.specs.outbox.Calls.{id_of};
+ghost use Rattle.nt_rules.specs.history.State.{taken_at, with_taken, without_taken, taken_by, taken_after};
+ghost use Rattle.nt_rules.specs.Sorted.{RisesFrom};
+ghost use Rattle.nt_server.specs.TakenPlaces.{id_of_place, IsFoundAt, IsMissedAt};
 
-use nt_history::Taken;
-use nt_table::Change;
+use nt_rules::{Change, Taken};
 use std::alloc::{AllocError, Global};
 use std::marker::Model;
 
 /// The places at which the values that topics hold were taken. Contracts see the list of them, by
 /// rising id of the topics.
-#[derive(Debug, Drop)]
+#[derive(Drop)]
 pub struct TakenPlaces {
     list: Vec<Taken>,
 }
 
 impl Model for TakenPlaces {
     ghost use Rattle.std.specs.Prelude.{List};
-    ghost use Rattle.nt_history.specs.declared.kept.Taken.{Taken};
-    ghost use Rattle.nt_server.specs.TakenPlaces.{RiseFrom};
+    ghost use Rattle.nt_rules.specs.declared.taken.Taken.{Taken};
+    ghost use Rattle.nt_rules.specs.Sorted.{RisesFrom};
+    ghost use Rattle.nt_server.specs.TakenPlaces.{id_of_place};
 
     ghost Value = { List Taken };
 
     ghost view = { λ p. p.list.items };
 
-    ghost invariant = { λ p. RiseFrom 0 p.list.items };
+    ghost invariant = { λ p. RisesFrom id_of_place 0 p.list.items };
 }
 
 /// Where the place of a topic stands, or else would stand.
 fn index_of(taken: &[Taken], topic: u32) -> Result<usize, usize>
-    requires { RiseFrom 0 taken.now }
-    ensures { MatchResult result (StandsAt topic taken.now) (IsMissedAt topic taken.now) }
+    requires { RisesFrom id_of_place 0 taken.now }
+    ensures { MatchResult result (IsFoundAt topic taken.now) (IsMissedAt topic taken.now) }
 {
     taken.binary_search_by_key(&topic, |one| one.topic)
 }

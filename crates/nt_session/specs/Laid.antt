@@ -5,7 +5,7 @@ use Rattle.nt_frames.specs.declared.message.ValueMsg.{ValueMsg}
 use Rattle.nt_frames.specs.Frames.{spelling_of, frame_of}
 use Rattle.nt_control.specs.declared.message.ServerMsg.{ServerMsg}
 use Rattle.nt_control.specs.Frame.{server_text}
-use Rattle.nt_outbox.specs.declared.batch.Batch.{Batch}
+use Rattle.nt_rules.specs.declared.batch.Batch.{Batch}
 use Rattle.nt_link.specs.declared.frame.Frame.{Frame}
 use Rattle.nt_link.specs.declared.frame.Frame.TheVariants as frames
 

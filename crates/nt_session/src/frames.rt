@@ -7,7 +7,7 @@ ghost use Rattle.nt_session.specs.Laid.{text_frames, frames_behind, frames_in, c
 use nt_control::{ServerMsg, write_server};
 use nt_frames::{ValueMsg, put_message};
 use nt_link::Frame;
-use nt_outbox::Batch;
+use nt_rules::Batch;
 use nt_values::Bytes;
 use std::alloc::{AllocError, Global};
 use std::mem;

@@ -5,4 +5,4 @@ mod frames;
 mod laws;
 
 pub use frames::{clock_answer, frames_of};
-pub use laws::{frames_have_a_meaning, values_are_laid_in_order};
+pub use laws::values_are_laid_in_order;

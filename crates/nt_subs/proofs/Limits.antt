@@ -7,8 +7,8 @@ use Rattle.std.proofs.lemmas.Map.Entries.{sum_by-insert_entry, sum_by-remove_ent
 use Rattle.std.specs.BTreeMap.{is_at}
 use Rattle.std.specs.Map.{lookup}
 use Rattle.std.specs.Ordering.{int_cmp}
-use Rattle.nt_subs.proofs.Places.{Stands, IsGap, stands, gap, by_uid-with_sub, by_uid-without_sub}
-use Rattle.nt_subs.specs.Subscriptions.{Subs, IsKept, added, after, are_within, place_of, size_of, total_size, with_sub, without_sub}
+use Rattle.nt_subs.proofs.Indices.{Stands, IsGap, stands, gap, by_uid-with_sub, by_uid-without_sub}
+use Rattle.nt_subs.specs.Subscriptions.{Subs, IsKept, added, after, are_within, index_of, size_of, total_size, with_sub, without_sub}
 use Rattle.nt_subs.specs.declared.set.Added.TheVariants.{New, Replaced, TooMany}
 use Rattle.nt_subs.specs.declared.sub.Sub.{Sub}
 
@@ -68,10 +68,10 @@ total-without uid subs o is =
 
 -- ---- one more
 
-module _ (uid : ℤ) (sub : Sub) (subs : Subs) (size place : ℕ) (kept : IsKept subs size)
-    (is : place_of uid subs ≡ Err place) where
-  here : IsGap uid subs place
-  here = gap uid subs place kept.by_uid is
+module _ (uid : ℤ) (sub : Sub) (subs : Subs) (size index : ℕ) (kept : IsKept subs size)
+    (is : index_of uid subs ≡ Err index) where
+  here : IsGap uid subs index
+  here = gap uid subs index kept.by_uid is
 
   pub total_new : total_size (with_sub uid sub subs) ≡ size + size_of sub
   total_new =
@@ -80,7 +80,7 @@ module _ (uid : ℤ) (sub : Sub) (subs : Subs) (size place : ℕ) (kept : IsKept
       let counted = kept.counted in omega arith
 
   pub length_new : length (with_sub uid sub subs) ≡ length subs + 1
-  length_new = ap length (here.put sub) ∙ length-insert subs place (uid, sub) here.within
+  length_new = ap length (here.put sub) ∙ length-insert subs index (uid, sub) here.within
 
   pub many_new : 1024 ≤ length subs → are_within (with_sub uid sub subs) ≡ false
   many_new full = many (with_sub uid sub subs) (let n = length_new in omega arith)
@@ -102,16 +102,16 @@ module _ (uid : ℤ) (sub : Sub) (subs : Subs) (size place : ℕ) (kept : IsKept
     small = let n = total_new in omega arith;
   }
 
--- ---- one in another's place, or none
+-- ---- one in place of another, or none
 
-module _ (uid : ℤ) (subs : Subs) (size place : ℕ) (kept : IsKept subs size)
-    (is : place_of uid subs ≡ Ok place)
-    (entry : ℤ × Sub) (at_place : entry ≡ get_or subs place entry) where
-  at : Stands uid subs place
-  at = stands uid subs place kept.by_uid is
+module _ (uid : ℤ) (subs : Subs) (size index : ℕ) (kept : IsKept subs size)
+    (is : index_of uid subs ≡ Ok index)
+    (entry : ℤ × Sub) (at_index : entry ≡ get_or subs index entry) where
+  at : Stands uid subs index
+  at = stands uid subs index kept.by_uid is
 
   pub found_old : lookup (is_at (int_cmp uid)) subs ≡ Some entry.1
-  found_old = at.found entry ∙ ap (λ (e : ℤ × Sub). Some e.1) (sym at_place)
+  found_old = at.found entry ∙ ap (λ (e : ℤ × Sub). Some e.1) (sym at_index)
 
   pub total_old : total_size (without_sub uid subs) + size_of entry.1 ≡ size
   total_old = total-without uid subs (Some entry.1) found_old ∙ sym kept.counted
@@ -131,7 +131,7 @@ module _ (uid : ℤ) (subs : Subs) (size place : ℕ) (kept : IsKept subs size)
     counted = let m = total_old in omega arith;
     few =
         let n : length (without_sub uid subs) + 1 ≡ length subs =
-        ap (λ xs. length xs + 1) at.taken ∙ length-remove subs place at.within in
+        ap (λ xs. length xs + 1) at.taken ∙ length-remove subs index at.within in
         let few = kept.few in omega arith;
     small = let m = total_old in let c = kept.counted in let s = kept.small in omega arith;
   }
@@ -144,7 +144,7 @@ module _ (uid : ℤ) (subs : Subs) (size place : ℕ) (kept : IsKept subs size)
         let counted = kept.counted in let m = total_old in omega arith
 
     pub length_replaced : length (with_sub uid sub subs) ≡ length subs
-    length_replaced = ap length (at.put sub) ∙ length-set subs place (uid, sub)
+    length_replaced = ap length (at.put sub) ∙ length-set subs index (uid, sub)
 
     pub large_replaced : 131_072 < (size - size_of entry.1) + size_of sub
         → are_within (with_sub uid sub subs) ≡ false

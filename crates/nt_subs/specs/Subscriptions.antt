@@ -48,18 +48,18 @@ added uid sub subs =
 abbrev pub after : ℤ → Sub → Subs → Subs
 after uid sub subs = if are_within (with_sub uid sub subs) then with_sub uid sub subs else subs
 
--- ---- places
+-- ---- indices
 
--- the place after this one
-abbrev pub next_place : Result ℕ ℕ → Result ℕ ℕ
-next_place (Ok place) = Ok (suc place)
-next_place (Err place) = Err (suc place)
+-- the index after this one
+abbrev pub next_index : Result ℕ ℕ → Result ℕ ℕ
+next_index (Ok index) = Ok (suc index)
+next_index (Err index) = Err (suc index)
 
--- the place of a uid, or else the one where it would stand
-abbrev pub place_of : ℤ → Subs → Result ℕ ℕ
-place_of uid [] = Err 0
-place_of uid (entry ∷ entries) =
-    match_ordering (int_cmp uid entry.0) (Err 0) (Ok 0) (next_place (place_of uid entries))
+-- the index of a uid, or else the one where it would stand
+abbrev pub index_of : ℤ → Subs → Result ℕ ℕ
+index_of uid [] = Err 0
+index_of uid (entry ∷ entries) =
+    match_ordering (int_cmp uid entry.0) (Err 0) (Ok 0) (next_index (index_of uid entries))
 
 -- the subscriptions of a set, and what it holds of them
 pub record IsKept (subs : Subs) (size : ℕ) : Type 0 where

@@ -1,7 +1,7 @@
 //! The subscriptions of a connection.
 
 ghost use Rattle.std.specs.Prelude.{◌≡◌, ◌<◌, ◌≤◌, ◌+◌, ◌-◌, ◌^◌, true, [], length, min, slice_get, Some, IfOk, OnOk, OnErr, Ok, Err};
-ghost use Rattle.nt_subs.specs.Subscriptions.{AreByUid, added, after, are_within, has_uid, place_of, size_of, without_sub};
+ghost use Rattle.nt_subs.specs.Subscriptions.{AreByUid, added, after, are_within, has_uid, index_of, size_of, without_sub};
 ghost use Rattle.nt_subs.specs.Wishes.{wanted};
 
 use crate::wish::wish;
@@ -17,7 +17,7 @@ pub const MOST_SUBS: usize = 1024;
 pub const MOST_SIZE: usize = 131_072;
 
 /// What adding a subscription is answered.
-#[derive(Clone, Copy, Debug, PartialEq, Eq)]
+#[derive(Clone, Copy, PartialEq, Eq)]
 pub enum Added {
     /// It is new.
     New,
@@ -28,7 +28,7 @@ pub enum Added {
 }
 
 /// The subscriptions of a connection. Contracts see the list of each with its uid, by rising uid.
-#[derive(Debug, Drop)]
+#[derive(Drop)]
 pub struct SubSet {
     entries: Vec<(i64, Sub)>,
     // the sum of the sizes
@@ -75,9 +75,9 @@ impl SubSet {
         ensures subs { OnOk result (self.new ≡ after uid sub self.old) }
         ensures err { OnErr result (self.new ≡ self.old) }
     {
-        match place(self.entries.as_slice(), uid) {
-            Ok(place) => Ok(self.replace(place, uid, sub)),
-            Err(place) => self.insert(place, uid, sub),
+        match index_of(self.entries.as_slice(), uid) {
+            Ok(index) => Ok(self.replace(index, uid, sub)),
+            Err(index) => self.insert(index, uid, sub),
         }
     }
 
@@ -86,10 +86,10 @@ impl SubSet {
         ensures found { result ≡ has_uid uid self.old }
         ensures subs { self.new ≡ without_sub uid self.old }
     {
-        match place(self.entries.as_slice(), uid) {
-            Ok(place) => {
-                self.size -= size(&self.entries[place].1);
-                self.entries.remove(place);
+        match index_of(self.entries.as_slice(), uid) {
+            Ok(index) => {
+                self.size -= size(&self.entries[index].1);
+                self.entries.remove(index);
                 true
             }
             Err(_) => false,
@@ -116,34 +116,34 @@ impl SubSet {
         self.entries.len()
     }
 
-    /// The subscription at a place, by rising uid, and its uid.
-    pub fn at(&self, place: usize) -> (i64, &Sub)
-        requires { place < length self.now }
-        ensures { slice_get self.now place ≡ Some (result.0, result.1.now) }
+    /// The subscription at an index, by rising uid, and its uid.
+    pub fn at(&self, index: usize) -> (i64, &Sub)
+        requires { index < length self.now }
+        ensures { slice_get self.now index ≡ Some (result.0, result.1.now) }
     {
-        let entry = &self.entries[place];
+        let entry = &self.entries[index];
         (entry.0, &entry.1)
     }
 
     /// Adds a subscription in place of the one that stands there.
-    fn replace(&mut self, place: usize, uid: i64, sub: Sub) -> Added
-        requires { place_of uid self.old ≡ Ok place }
+    fn replace(&mut self, index: usize, uid: i64, sub: Sub) -> Added
+        requires { index_of uid self.old ≡ Ok index }
         ensures answer { result ≡ added uid sub self.old }
         ensures subs { self.new ≡ after uid sub self.old }
     {
-        let others = self.size - size(&self.entries[place].1);
+        let others = self.size - size(&self.entries[index].1);
         let size = size(&sub);
         if MOST_SIZE - others < size {
             return Added::TooMany;
         }
-        self.entries[place] = (uid, sub);
+        self.entries[index] = (uid, sub);
         self.size = others + size;
         Added::Replaced
     }
 
     /// Adds a subscription where none stands.
-    fn insert(&mut self, place: usize, uid: i64, sub: Sub) -> Result<Added, AllocError>
-        requires { place_of uid self.old ≡ Err place }
+    fn insert(&mut self, index: usize, uid: i64, sub: Sub) -> Result<Added, AllocError>
+        requires { index_of uid self.old ≡ Err index }
         ensures answer { IfOk result (λ answer. answer ≡ added uid sub self.old) }
         ensures subs { OnOk result (self.new ≡ after uid sub self.old) }
         ensures err { OnErr result (self.new ≡ self.old) }
@@ -152,7 +152,7 @@ impl SubSet {
         if self.entries.len() >= MOST_SUBS || MOST_SIZE - self.size < size {
             return Ok(Added::TooMany);
         }
-        self.entries.insert(place, (uid, sub))?;
+        self.entries.insert(index, (uid, sub))?;
         self.size += size;
         Ok(Added::New)
     }
@@ -169,14 +169,14 @@ fn copy_entries(alloc: Global, entries: &[(i64, Sub)]) -> Result<Vec<(i64, Sub)>
     Ok(copied)
 }
 
-/// The place of a uid, or else the one where it would stand.
-fn place(entries: &[(i64, Sub)], uid: i64) -> Result<usize, usize>
-    ensures { result ≡ place_of uid entries.now }
+/// The index of a uid, or else the one where it would stand.
+fn index_of(entries: &[(i64, Sub)], uid: i64) -> Result<usize, usize>
+    ensures { result ≡ index_of uid entries.now }
 {
-    for (place, entry) in entries.iter().enumerate() {
+    for (index, entry) in entries.iter().enumerate() {
         match uid.cmp(&entry.0) {
-            Ordering::Less => return Err(place),
-            Ordering::Equal => return Ok(place),
+            Ordering::Less => return Err(index),
+            Ordering::Equal => return Ok(index),
             Ordering::Greater => {}
         }
     }

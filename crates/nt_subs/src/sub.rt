@@ -12,7 +12,7 @@ use std::alloc::{AllocError, Global};
 pub type Names = ListOf<Name>;
 
 /// The options of a subscription ("Subscribe Message", options).
-#[derive(Clone, Copy, Debug, PartialEq, Eq)]
+#[derive(Clone, Copy, PartialEq, Eq)]
 pub struct Options {
     /// All values are wanted, and not only the newest.
     pub all: bool,
@@ -23,7 +23,7 @@ pub struct Options {
 }
 
 /// A subscription: its names and its options.
-#[derive(Debug, Drop)]
+#[derive(Drop)]
 pub struct Sub {
     pub names: Names,
     pub options: Options,

@@ -7,7 +7,7 @@ use crate::{Options, Sub};
 use nt_topics::is_special;
 
 /// How much a topic is wanted, from least to most ("Subscription Options").
-#[derive(Clone, Copy, Debug, PartialEq, Eq, PartialOrd, Ord)]
+#[derive(Clone, Copy, PartialEq, Eq, PartialOrd, Ord)]
 pub enum Wanted {
     /// Not at all.
     No,

@@ -4,10 +4,10 @@ use Rattle.std.specs.List.{list_any, cons_option, position, position_or_len}
 use Rattle.std.specs.Str.{bytes_eq}
 use Rattle.std.proofs.lemmas.Bool.Decides.{Decides-eqb}
 use Rattle.std.proofs.lemmas.Slice.Eq.{bytes_eq-Decides}
-use Rattle.nt_table.specs.declared.topic.Topic.{Topic}
-use Rattle.nt_table.specs.declared.topic.Pub.{Pub}
-use Rattle.nt_table.specs.Topics.{is_publisher, is_of, is_named, has_publisher, change_first, left_of, lives_on, without_publisher, without_conn, with_publisher, outlives, dropped, unpublished}
-use Rattle.nt_table.specs.Changes.{drop_changes, ended}
+use Rattle.nt_rules.specs.declared.topic.Topic.{Topic}
+use Rattle.nt_rules.specs.declared.topic.Pub.{Pub}
+use Rattle.nt_rules.specs.topics.Topics.{is_publisher, is_of, is_named, has_publisher, change_first, left_of, lives_on, without_publisher, without_conn, with_publisher, outlives, dropped, unpublished}
+use Rattle.nt_rules.specs.topics.Changes.{drop_changes, ended}
 use Rattle.nt_table.specs.Index.{one, number, total, is_at, IsRising, IsFiled, AreFiled}
 use Rattle.nt_table.proofs.Numbers.{number-none, number-same, number-push, any-none, any-number, none-counted, is-of, is_key, key-same, key-apart, not-true, not-false, of-publisher}
 
@@ -22,13 +22,13 @@ any-agree p q [] h = refl
 any-agree p q (t ∷ ts) h = ap (λ b. b || list_any p ts) h.0 ∙ ap (λ b. q t || b) (any-agree p q ts h.1)
 
 pub position-agree : (p q : Topic → Bool) (ts : List Topic) → Agree p q ts → position p ts ≡ position q ts
-position-agree p q ts h = ap (λ n. cond (ltb n (length ts)) (Some n) None) (places ts h)
+position-agree p q ts h = ap (λ n. cond (ltb n (length ts)) (Some n) None) (indexes ts h)
   where
-    places : (ts : List Topic) → Agree p q ts → position_or_len p ts ≡ position_or_len q ts
-    places [] h = refl
-    places (t ∷ ts) h =
+    indexes : (ts : List Topic) → Agree p q ts → position_or_len p ts ≡ position_or_len q ts
+    indexes [] h = refl
+    indexes (t ∷ ts) h =
         ap (λ b. cond (not b) (1 + position_or_len p ts) 0) h.0
-        ∙ ap (λ n. cond (not (q t)) (1 + n) 0) (places ts h.1)
+        ∙ ap (λ n. cond (not (q t)) (1 + n) 0) (indexes ts h.1)
 
 -- ---- ids that rise
 
@@ -73,7 +73,8 @@ rising-less : (least most : ℕ) (ts : List Topic) → least ≤ most → IsRisi
 rising-less least most [] h r = tt
 rising-less least most (t ∷ ts) h r = let less : most ≤ t.id = r.0 in (omega arith, r.1)
 
-pub rising-changed : (least : ℕ) (first : Topic → Bool) (f : Topic → Option Topic) (ts : List Topic) → ((t : Topic) → KeepsId t (f t))
+pub rising-changed : (least : ℕ) (first : Topic → Bool) (f : Topic → Option Topic) (ts : List Topic)
+    → ((t : Topic) → KeepsId t (f t))
     → IsRising least ts → IsRising least (change_first first f ts)
 rising-changed least first f [] h r = tt
 rising-changed least first f (t ∷ ts) h r = by (first t) (f t) (h t) (rising-changed (t.id + 1) first f ts h r.1)
@@ -97,11 +98,13 @@ rising-dropped least conn (t ∷ ts) r = by (outlives conn t) (rising-dropped (t
 -- ---- what an index says of the topics
 
 module _ (names : List ℕ → Option ℕ) (ids : ℕ → ℤ → Option ℕ) (next : ℕ) where
-  pub agree-name : (name : List ℕ) (ts : List Topic) → AreFiled names ids next ts → Agree (is_named name) (is_at (names name)) ts
+  pub agree-name : (name : List ℕ) (ts : List Topic) → AreFiled names ids next ts
+      → Agree (is_named name) (is_at (names name)) ts
   agree-name name [] h = tt
   agree-name name (t ∷ ts) h = let first = h.0 in (first.named name, agree-name name ts h.1)
 
-  pub has-at : (conn : ℕ) (uid : ℤ) (t : Topic) → IsFiled names ids next t → has_publisher conn uid t ≡ is_at (ids conn uid) t
+  pub has-at : (conn : ℕ) (uid : ℤ) (t : Topic) → IsFiled names ids next t
+      → has_publisher conn uid t ≡ is_at (ids conn uid) t
   has-at conn uid t h = any-number (is_publisher conn uid) t.pubs (is_at (ids conn uid) t) (h.published conn uid)
 
   pub agree-publisher : (conn : ℕ) (uid : ℤ) (ts : List Topic) → AreFiled names ids next ts
@@ -109,7 +112,8 @@ module _ (names : List ℕ → Option ℕ) (ids : ℕ → ℤ → Option ℕ) (n
   agree-publisher conn uid [] h = tt
   agree-publisher conn uid (t ∷ ts) h = (has-at conn uid t h.0, agree-publisher conn uid ts h.1)
 
-  pub rising-push : (least : ℕ) (ts : List Topic) (t : Topic) → t.id ≡ next → least ≤ next → AreFiled names ids next ts → IsRising least ts
+  pub rising-push : (least : ℕ) (ts : List Topic) (t : Topic) → t.id ≡ next → least ≤ next → AreFiled names ids next ts
+      → IsRising least ts
       → IsRising least (ts ++ t ∷ [])
   rising-push least [] t e h f r = (omega (arith, e), tt)
   rising-push least (s ∷ ts) t e h f r =
@@ -132,7 +136,8 @@ module _ (names : List ℕ → Option ℕ) (ids : ℕ → ℤ → Option ℕ) (n
       )
 
   -- a topic with the same id, name and publishers
-  pub refiled : (t u : Topic) → u.id ≡ t.id → u.name ≡ t.name → u.pubs ≡ t.pubs → IsFiled names ids next t → IsFiled names ids next u
+  pub refiled : (t u : Topic) → u.id ≡ t.id → u.name ≡ t.name → u.pubs ≡ t.pubs → IsFiled names ids next t
+      → IsFiled names ids next u
   refiled t u i n p h = record {
     below = let b : t.id < next = h.below in omega (arith, i);
     named = λ name. ap (λ m. bytes_eq m name) n ∙ h.named name ∙ sym (at-same (names name) t u i);
@@ -142,25 +147,27 @@ module _ (names : List ℕ → Option ℕ) (ids : ℕ → ℤ → Option ℕ) (n
 
 -- ---- from what one index says to what another does
 
-module _ (names : List ℕ → Option ℕ) (ids : ℕ → ℤ → Option ℕ) (next : ℕ) (names-2 : List ℕ → Option ℕ) (ids-2 : ℕ → ℤ → Option ℕ) (next-2 : ℕ) where
+module _ (names : List ℕ → Option ℕ) (ids : ℕ → ℤ → Option ℕ) (next : ℕ) (names-2 : List ℕ → Option ℕ)
+    (ids-2 : ℕ → ℤ → Option ℕ) (next-2 : ℕ) where
   -- of what is left of a topic
   abbrev pub FiledLeft : Option Topic → Type 0
   FiledLeft None = Unit {0}
   FiledLeft (Some t) = IsFiled names-2 ids-2 next-2 t
 
-  -- the topics behind one
-  filed-behind : (t : Topic) (ts : List Topic)
+  -- the topics after one
+  filed-after : (t : Topic) (ts : List Topic)
       → ((s : Topic) → t.id < s.id → IsFiled names ids next s → IsFiled names-2 ids-2 next-2 s)
       → (least : ℕ) → t.id < least → IsRising least ts → AreFiled names ids next ts → AreFiled names-2 ids-2 next-2 ts
-  filed-behind t [] f least h r k = tt
-  filed-behind t (s ∷ ts) f least h r k =
+  filed-after t [] f least h r k = tt
+  filed-after t (s ∷ ts) f least h r k =
       let from : least ≤ s.id = r.0 in
-      (f s (omega arith) k.0, filed-behind t ts f (s.id + 1) (omega arith) r.1 k.1)
+      (f s (omega arith) k.0, filed-after t ts f (s.id + 1) (omega arith) r.1 k.1)
 
   -- a change of the first that passes
   pub filed-changed : (first : Topic → Bool) (f : Topic → Option Topic) (ts : List Topic) (least : ℕ)
       → ((t : Topic) → IsFiled names ids next t → first t ≡ false → IsFiled names-2 ids-2 next-2 t)
-      → ((t s : Topic) → IsFiled names ids next t → first t ≡ true → t.id < s.id → IsFiled names ids next s → IsFiled names-2 ids-2 next-2 s)
+      → ((t s : Topic) → IsFiled names ids next t → first t ≡ true → t.id < s.id → IsFiled names ids next s
+      → IsFiled names-2 ids-2 next-2 s)
       → ((t : Topic) → IsFiled names ids next t → first t ≡ true → FiledLeft (f t))
       → IsRising least ts → AreFiled names ids next ts → AreFiled names-2 ids-2 next-2 (change_first first f ts)
   filed-changed first f [] least other after here r k = tt
@@ -170,8 +177,12 @@ module _ (names : List ℕ → Option ℕ) (ids : ℕ → ℤ → Option ℕ) (n
       by : (b : Bool) → first t ≡ b → (o : Option Topic) → (first t ≡ true → FiledLeft o)
           → AreFiled names-2 ids-2 next-2 (change_first first f ts)
           → AreFiled names-2 ids-2 next-2 (cond b (cons_option o ts) (t ∷ change_first first f ts))
-      by true e None left rest = filed-behind t ts (λ s less h. after t s k.0 e less h) (t.id + 1) (omega arith) r.1 k.1
-      by true e (Some u) left rest = (left e, filed-behind t ts (λ s less h. after t s k.0 e less h) (t.id + 1) (omega arith) r.1 k.1)
+      by true e None left rest = filed-after t ts (λ s less h. after t s k.0 e less h) (t.id + 1) (omega arith) r.1 k.1
+      by true e (Some u) left rest = (
+        left e,
+        filed-after t ts (λ s less h. after t s k.0 e less h) (t.id + 1)
+            (omega arith) r.1 k.1,
+      )
       by false e o left rest = (other t k.0 e, rest)
 
   -- what a connection leaves
@@ -182,11 +193,12 @@ module _ (names : List ℕ → Option ℕ) (ids : ℕ → ℤ → Option ℕ) (n
   filed-dropped conn (t ∷ ts) f k = by (outlives conn t) (filed-dropped conn ts f k.1)
     where
       by : (b : Bool) → AreFiled names-2 ids-2 next-2 (dropped ts conn)
-          → AreFiled names-2 ids-2 next-2 (map (without_conn conn) (cond b (t ∷ filter (outlives conn) ts) (filter (outlives conn) ts)))
+          → AreFiled names-2 ids-2 next-2
+          (map (without_conn conn) (cond b (t ∷ filter (outlives conn) ts) (filter (outlives conn) ts)))
       by true rest = (f t k.0, rest)
       by false rest = rest
 
-  -- topics of which none passes, and one behind them
+  -- topics of which none passes, and one after them
   pub filed-unless : (test : Topic → Bool) (ts : List Topic) → list_any test ts ≡ false
       → ((t : Topic) → test t ≡ false → IsFiled names ids next t → IsFiled names-2 ids-2 next-2 t)
       → AreFiled names ids next ts → AreFiled names-2 ids-2 next-2 ts
@@ -208,17 +220,20 @@ module _ (names : List ℕ → Option ℕ) (ids : ℕ → ℤ → Option ℕ) (n
 module _ (names : List ℕ → Option ℕ) (ids : ℕ → ℤ → Option ℕ) (next : ℕ) (ids-2 : ℕ → ℤ → Option ℕ) (conn : ℕ) (uid : ℤ)
     (says : (c : ℕ) (u : ℤ) → ids-2 c u ≡ cond (is_key conn uid c u) None (ids c u)) where
   -- a topic without it
-  still : (t : Topic) → IsFiled names ids next t → number (is_publisher conn uid) t.pubs ≡ 0 → IsFiled names ids-2 next t
+  still : (t : Topic) → IsFiled names ids next t → number (is_publisher conn uid) t.pubs ≡ 0
+      → IsFiled names ids-2 next t
   still t h none = record {
     below = h.below;
     named = h.named;
     published = λ c u. by c u (is_key conn uid c u) refl;
   }
     where
-      by : (c : ℕ) (u : ℤ) (b : Bool) → is_key conn uid c u ≡ b → number (is_publisher c u) t.pubs ≡ one (is_at (ids-2 c u) t)
+      by : (c : ℕ) (u : ℤ) (b : Bool) → is_key conn uid c u ≡ b
+          → number (is_publisher c u) t.pubs ≡ one (is_at (ids-2 c u) t)
       by c u true e =
           let same = key-same conn uid c u e in
-          ap (λ k. number (is_publisher k u) t.pubs) (sym same.0) ∙ ap (λ v. number (is_publisher conn v) t.pubs) (sym same.1) ∙ none
+          ap (λ k. number (is_publisher k u) t.pubs) (sym same.0)
+          ∙ ap (λ v. number (is_publisher conn v) t.pubs) (sym same.1) ∙ none
           ∙ sym (ap (λ o. one (is_at o t)) (says c u ∙ ap (λ b. cond b None (ids c u)) e))
       by c u false e = h.published c u ∙ sym (ap (λ o. one (is_at o t)) (says c u ∙ ap (λ b. cond b None (ids c u)) e))
 
@@ -231,11 +246,13 @@ module _ (names : List ℕ → Option ℕ) (ids : ℕ → ℤ → Option ℕ) (n
   }
     where
       by : (c : ℕ) (u : ℤ) (b : Bool) → is_key conn uid c u ≡ b
-          → number (is_publisher c u) (filter (λ p. not (is_publisher conn uid p)) t.pubs) ≡ one (is_at (ids-2 c u) (without_publisher conn uid t))
+          → number (is_publisher c u) (filter (λ p. not (is_publisher conn uid p)) t.pubs)
+          ≡ one (is_at (ids-2 c u) (without_publisher conn uid t))
       by c u true e =
           let same = key-same conn uid c u e in
           number-none (is_publisher c u) (λ p. not (is_publisher conn uid p)) t.pubs
-          (λ p k. not-true (is_publisher conn uid p) (ap (λ m. is_publisher m uid p) same.0 ∙ ap (λ v. is_publisher c v p) same.1 ∙ k))
+          (λ p k. not-true (is_publisher conn uid p)
+          (ap (λ m. is_publisher m uid p) same.0 ∙ ap (λ v. is_publisher c v p) same.1 ∙ k))
           ∙ sym (ap (λ o. one (is_at o (without_publisher conn uid t))) (says c u ∙ ap (λ b. cond b None (ids c u)) e))
       by c u false e =
           number-same (is_publisher c u) (λ p. not (is_publisher conn uid p)) t.pubs
@@ -250,11 +267,14 @@ module _ (names : List ℕ → Option ℕ) (ids : ℕ → ℤ → Option ℕ) (n
       by true = h
       by false = tt
 
-  pub filed-unpublished : (ts : List Topic) (least : ℕ) → IsRising least ts → AreFiled names ids next ts → AreFiled names ids-2 next (unpublished ts conn uid)
+  pub filed-unpublished : (ts : List Topic) (least : ℕ) → IsRising least ts → AreFiled names ids next ts
+      → AreFiled names ids-2 next (unpublished ts conn uid)
   filed-unpublished ts least r k =
-      filed-changed names ids next names ids-2 next (has_publisher conn uid) (λ t. left_of (without_publisher conn uid t)) ts least
+      filed-changed names ids next names ids-2 next (has_publisher conn uid)
+      (λ t. left_of (without_publisher conn uid t)) ts least
       (λ t h e. still t h (none-counted (is_publisher conn uid) t.pubs e))
-      (λ t s h e less g. still s g (g.published conn uid ∙ ap one (at-one (ids conn uid) t s less (sym (has-at names ids next conn uid t h) ∙ e))))
+      (λ t s h e less g. still s g (g.published conn uid
+      ∙ ap one (at-one (ids conn uid) t s less (sym (has-at names ids next conn uid t h) ∙ e))))
       (λ t h e. left-filed (without_publisher conn uid t) (lost t h))
       r k
 
@@ -270,13 +290,15 @@ module _ (names : List ℕ → Option ℕ) (ids : ℕ → ℤ → Option ℕ) (n
   }
     where
       by : (c : ℕ) (u : ℤ) (b : Bool) → (conn == c) ≡ b
-          → number (is_publisher c u) (filter (λ p. not (is_of conn p)) t.pubs) ≡ one (is_at (ids-2 c u) (without_conn conn t))
+          → number (is_publisher c u) (filter (λ p. not (is_of conn p)) t.pubs)
+          ≡ one (is_at (ids-2 c u) (without_conn conn t))
       by c u true e =
           number-none (is_publisher c u) (λ p. not (is_of conn p)) t.pubs
           (λ p k. not-true (is_of conn p) (ap (λ m. is_of m p) ((Decides-eqb conn c).0 e) ∙ is-of c u p k))
           ∙ sym (ap (λ o. one (is_at o (without_conn conn t))) (says c u ∙ ap (λ b. cond b None (ids c u)) e))
       by c u false e =
-          number-same (is_publisher c u) (λ p. not (is_of conn p)) t.pubs (λ p k. not-false (is_of conn p) (apart p (of-publisher c u p k).0))
+          number-same (is_publisher c u) (λ p. not (is_of conn p)) t.pubs
+          (λ p k. not-false (is_of conn p) (apart p (of-publisher c u p k).0))
           ∙ h.published c u ∙ sym (ap one (at-same (ids c u) t (without_conn conn t) refl))
           ∙ sym (ap (λ o. one (is_at o (without_conn conn t))) (says c u ∙ ap (λ b. cond b None (ids c u)) e))
         where
@@ -293,11 +315,15 @@ module _ (names : List ℕ → Option ℕ) (ids : ℕ → ℤ → Option ℕ) (n
 -- ---- a publisher that comes
 
 module _ (names : List ℕ → Option ℕ) (ids : ℕ → ℤ → Option ℕ) (next : ℕ) (ids-2 : ℕ → ℤ → Option ℕ) (p : Pub) (id : ℕ)
-    (says : (c : ℕ) (u : ℤ) → ids-2 c u ≡ cond (is_key p.conn p.uid c u) (Some id) (ids c u)) (fresh : ids p.conn p.uid ≡ None) where
+    (says : (c : ℕ) (u : ℤ) → ids-2 c u ≡ cond (is_key p.conn p.uid c u) (Some id) (ids c u))
+    (fresh : ids p.conn p.uid ≡ None) where
   says-same : (c : ℕ) (u : ℤ) → is_key p.conn p.uid c u ≡ true → (ids-2 c u ≡ Some id) × (ids c u ≡ None)
   says-same c u e =
-      let same = key-same p.conn p.uid c u e in
-      (says c u ∙ ap (λ b. cond b (Some id) (ids c u)) e, ap (λ n. ids n u) (sym same.0) ∙ ap (λ v. ids p.conn v) (sym same.1) ∙ fresh)
+      let same = key-same p.conn p.uid c u e in (
+        says c u ∙ ap (λ b. cond b (Some id) (ids c u)) e,
+        ap (λ n. ids n u) (sym same.0)
+            ∙ ap (λ v. ids p.conn v) (sym same.1) ∙ fresh,
+      )
 
   says-other : (c : ℕ) (u : ℤ) → is_key p.conn p.uid c u ≡ false → ids-2 c u ≡ ids c u
   says-other c u e = says c u ∙ ap (λ b. cond b (Some id) (ids c u)) e
@@ -321,7 +347,8 @@ module _ (names : List ℕ → Option ℕ) (ids : ℕ → ℤ → Option ℕ) (n
   joined t u here i e h c v =
       ap (number (is_publisher c v)) e ∙ number-push (is_publisher c v) t.pubs p ∙ by (is_key p.conn p.uid c v) refl
     where
-      by : (b : Bool) → is_key p.conn p.uid c v ≡ b → number (is_publisher c v) t.pubs + one b ≡ one (is_at (ids-2 c v) u)
+      by : (b : Bool) → is_key p.conn p.uid c v ≡ b
+          → number (is_publisher c v) t.pubs + one b ≡ one (is_at (ids-2 c v) u)
       by true e =
           let s = says-same c v e in
           let none : number (is_publisher c v) t.pubs ≡ 0 = h c v ∙ ap (λ o. one (is_at o t)) s.1 in
@@ -333,7 +360,8 @@ module _ (names : List ℕ → Option ℕ) (ids : ℕ → ℤ → Option ℕ) (n
           omega arith
 
   -- a topic that lives is joined
-  pub filed-joined : (name : List ℕ) (ts : List Topic) (least : ℕ) → names name ≡ Some id → IsRising least ts → AreFiled names ids next ts
+  pub filed-joined : (name : List ℕ) (ts : List Topic) (least : ℕ) → names name ≡ Some id → IsRising least ts
+      → AreFiled names ids next ts
       → AreFiled names ids-2 next (change_first (is_named name) (λ t. Some (with_publisher p t)) ts)
   filed-joined name ts least at r k =
       filed-changed names ids next names ids-2 next (is_named name) (λ t. Some (with_publisher p t)) ts least
@@ -342,7 +370,8 @@ module _ (names : List ℕ → Option ℕ) (ids : ℕ → ℤ → Option ℕ) (n
       (λ t h e. record {
         below = h.below;
         named = λ n. h.named n ∙ sym (at-same (names n) t (with_publisher p t) refl);
-        published = joined t (with_publisher p t) (at-same (Some id) t (with_publisher p t) refl ∙ sym (there t h) ∙ e) refl refl h.published;
+        published = joined t (with_publisher p t) (at-same (Some id) t (with_publisher p t) refl ∙ sym (there t h) ∙ e)
+            refl refl h.published;
       })
       r k
     where
@@ -357,7 +386,8 @@ module _ (names : List ℕ → Option ℕ) (ids : ℕ → ℤ → Option ℕ) (n
 module _ (names names-2 : List ℕ → Option ℕ) (name : List ℕ) (o : Option ℕ)
     (says : (n : List ℕ) → names-2 n ≡ cond (bytes_eq name n) o (names n)) where
   -- a topic of another name that isn't at what is said
-  pub named-other : (t : Topic) → is_named name t ≡ false → is_at o t ≡ false → ((n : List ℕ) → is_named n t ≡ is_at (names n) t)
+  pub named-other : (t : Topic) → is_named name t ≡ false → is_at o t ≡ false
+      → ((n : List ℕ) → is_named n t ≡ is_at (names n) t)
       → (n : List ℕ) → is_named n t ≡ is_at (names-2 n) t
   named-other t apart not h n = by (bytes_eq name n) refl
     where
@@ -384,7 +414,8 @@ module _ (conn : ℕ) where
   none-filtered [] h = refl
   none-filtered (p ∷ ps) h = by (λ k. none-filtered ps k) (is_of conn p) h
     where
-      by : (number (is_of conn) ps ≡ 0 → filter (λ p. not (is_of conn p)) ps ≡ ps) → (b : Bool) → one b + number (is_of conn) ps ≡ 0
+      by : (number (is_of conn) ps ≡ 0 → filter (λ p. not (is_of conn p)) ps ≡ ps) → (b : Bool)
+          → one b + number (is_of conn) ps ≡ 0
           → cond (not b) (p ∷ filter (λ p. not (is_of conn p)) ps) (filter (λ p. not (is_of conn p)) ps) ≡ p ∷ ps
       by more true h = absurd (omega arith)
       by more false h = ap (λ qs. p ∷ qs) (more (omega arith))
@@ -397,7 +428,8 @@ module _ (conn : ℕ) where
   pub dropped-none : (ts : List Topic) → total (is_of conn) ts ≡ 0 → ts ≡ dropped ts conn
   dropped-none [] h = refl
   dropped-none (t ∷ ts) h =
-      sym (ap (λ b. map (without_conn conn) (cond b (t ∷ filter (outlives conn) ts) (filter (outlives conn) ts))) (outlives-none t (omega arith))
+      sym (ap (λ b. map (without_conn conn) (cond b (t ∷ filter (outlives conn) ts) (filter (outlives conn) ts)))
+      (outlives-none t (omega arith))
       ∙ ap (λ ps. record t { pubs = ps } ∷ dropped ts conn) (none-filtered t.pubs (omega arith))
       ∙ ap (λ us. t ∷ us) (sym (dropped-none ts (omega arith))))
 
@@ -406,4 +438,5 @@ module _ (conn : ℕ) where
   nothing-dropped [] h = refl
   nothing-dropped (t ∷ ts) h =
       nothing-dropped ts (omega arith)
-      ∙ sym (ap (λ b. map ended (cond (not b) (t ∷ filter (λ t. not (outlives conn t)) ts) (filter (λ t. not (outlives conn t)) ts))) (outlives-none t (omega arith)))
+      ∙ sym (ap (λ b. map ended (cond (not b) (t ∷ filter (λ t. not (outlives conn t)) ts)
+      (filter (λ t. not (outlives conn t)) ts))) (outlives-none t (omega arith)))

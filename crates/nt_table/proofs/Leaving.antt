@@ -6,13 +6,13 @@ use Rattle.std.specs.List.Sorted.{IsNonDecreasing, IsStrictlyIncreasing}
 use Rattle.std.proofs.lemmas.Bool.Decides.{Decides-eqb, Decides-int_eq}
 use Rattle.std.proofs.lemmas.List.{append_assoc, get_or_default}
 use Rattle.std.proofs.lemmas.List.Sorted.{IsNonDecreasingBy-from_all_adjacent}
-use Rattle.nt_table.specs.declared.topic.Topic.{Topic}
-use Rattle.nt_table.specs.declared.topic.Pub.{Pub}
-use Rattle.nt_table.specs.declared.topic.Change.{Change}
-use Rattle.nt_table.specs.Topics.{is_publisher, is_of, has_conn, lives_on, change_first, without_conn, outlives, dropped}
-use Rattle.nt_table.specs.Changes.{told_by, drop_changes, ended}
+use Rattle.nt_rules.specs.declared.topic.Topic.{Topic}
+use Rattle.nt_rules.specs.declared.topic.Pub.{Pub}
+use Rattle.nt_rules.specs.declared.topic.Change.{Change}
+use Rattle.nt_rules.specs.topics.Topics.{is_publisher, is_of, has_conn, lives_on, change_first, without_conn, outlives, dropped}
+use Rattle.nt_rules.specs.topics.Changes.{told_by, drop_changes, ended}
 use Rattle.nt_table.specs.Index.{number, total, is_at, left_by, IsRising, AreFiled, AreSaid, AreAmong}
-use Rattle.nt_table.proofs.Positions.{find-none, change-none}
+use Rattle.nt_rules.proofs.Positions.{find-none, change-none}
 use Rattle.nt_table.proofs.Numbers.{number-none, any-none, none-counted, not-true}
 use Rattle.nt_table.proofs.Filed.{not-at, at-id, KeepsId, rising-changed, has-at, none-filtered, dropped-none, nothing-dropped}
 
@@ -46,7 +46,7 @@ in-rest id x ids apart h = by h.0 h.1 h.2
 pub rest-ordered : (id : ℕ) (ids : List ℕ) → IsNonDecreasing (id ∷ ids) → IsNonDecreasing ids
 rest-ordered id ids up i j d le within = up (suc i) (suc j) d (omega arith) (omega arith)
 
--- topics behind one have other ids
+-- topics after one have other ids
 other-id : (id : ℕ) (t : Topic) → id < t.id → (id == t.id) ≡ false
 other-id id t less =
     not-at (Some id) t (λ k e same. let at : id ≡ k = cc in omega (arith, same, at, less))
@@ -164,7 +164,7 @@ module _ (conn : ℕ) where
           ∙ ap (λ us. drop_changes (t ∷ us) conn) (change-none (is_at (Some id)) (left_by conn) ts none)
           ∙ ap (λ d. map ended (cond (not d) (t ∷ ending ts) (ending ts))) e
 
-  -- behind what was told before
+  -- after what was told before
   pub told-after : (id least : ℕ) (ids : List ℕ) (ts : List Topic) → IsNonDecreasing (id ∷ ids)
       → AreAmong (id ∷ ids) conn ts → IsRising least ts
       → (before now : List Change) → now ≡ before ++ told id ts
@@ -181,19 +181,19 @@ module _ (conn : ℕ) where
   among-left id least ids (t ∷ ts) a r =
       by (is_at (Some id) t) refl (outlives conn t) (among-left id (t.id + 1) ids ts a.1 r.1)
     where
-      behind : (from : ℕ) (ts : List Topic) → id < from → IsRising from ts → AreAmong (id ∷ ids) conn ts
+      following : (from : ℕ) (ts : List Topic) → id < from → IsRising from ts → AreAmong (id ∷ ids) conn ts
           → AreAmong ids conn ts
-      behind from [] less r a = tt
-      behind from (s ∷ ts) less r a =
+      following from [] less r a = tt
+      following from (s ∷ ts) less r a =
           let up : from ≤ s.id = r.0 in (
             λ h. in-rest id s.id ids (other-id id s (omega arith)) (a.0 h),
-            behind (s.id + 1) ts (omega arith) r.1 a.1,
+            following (s.id + 1) ts (omega arith) r.1 a.1,
           )
 
       at-first : is_at (Some id) t ≡ true → AreAmong ids conn ts
       at-first at =
           let same : id ≡ t.id = (Decides-eqb id t.id).0 at in
-          behind (t.id + 1) ts (omega (arith, same)) r.1 a.1
+          following (t.id + 1) ts (omega (arith, same)) r.1 a.1
 
       by : (b : Bool) → is_at (Some id) t ≡ b → (c : Bool) → AreAmong ids conn (after id ts)
           → AreAmong ids conn

@@ -5,9 +5,9 @@ use Rattle.std.specs.Ordering.{int_eq}
 use Rattle.std.proofs.lemmas.Bool.Decides.{nat_tests, Decides-eqb, Decides-int_eq}
 use Rattle.std.proofs.lemmas.List.Recursion.{is_count_by}
 use Rattle.nt_topics.specs.Properties.{is_persistent, is_retained}
-use Rattle.nt_table.specs.declared.topic.Topic.{Topic}
-use Rattle.nt_table.specs.declared.topic.Pub.{Pub}
-use Rattle.nt_table.specs.Topics.{is_publisher, is_of, has_publisher, publishers_of, change_first, left_of, without_publisher, without_conn, outlives, dropped, unpublished}
+use Rattle.nt_rules.specs.declared.topic.Topic.{Topic}
+use Rattle.nt_rules.specs.declared.topic.Pub.{Pub}
+use Rattle.nt_rules.specs.topics.Topics.{is_publisher, is_of, has_publisher, publishers_of, change_first, left_of, without_publisher, without_conn, outlives, dropped, unpublished}
 use Rattle.nt_table.specs.Index.{one, number, total}
 
 -- ---- the publishers of one topic
@@ -53,7 +53,8 @@ pub number-split : (test gone : Pub → Bool) (ps : List Pub) → ((p : Pub) →
     → number test (filter (λ p. not (gone p)) ps) + number gone ps ≡ number test ps
 number-split test gone [] h = refl
 number-split test gone (p ∷ ps) h =
-    let rest : number test (filter (λ p. not (gone p)) ps) + number gone ps ≡ number test ps = number-split test gone ps h in
+    let rest : number test (filter (λ p. not (gone p)) ps) + number gone ps ≡ number test ps =
+    number-split test gone ps h in
     let first = kept-first test p (filter (λ p. not (gone p)) ps) (not (gone p)) in
     let here : cond (not (gone p)) (one (test p)) 0 + one (gone p) ≡ one (test p) = by (gone p) (test p) (h p) in
     omega arith
@@ -63,7 +64,8 @@ number-split test gone (p ∷ ps) h =
     by true false h = absurd (let e : false ≡ true = h refl in cc)
     by false b h = omega arith
 
-pub number-push : (test : Pub → Bool) (ps : List Pub) (p : Pub) → number test (ps ++ p ∷ []) ≡ number test ps + one (test p)
+pub number-push : (test : Pub → Bool) (ps : List Pub) (p : Pub)
+    → number test (ps ++ p ∷ []) ≡ number test ps + one (test p)
 number-push test [] p = omega arith
 number-push test (q ∷ ps) p = let rest = number-push test ps p in omega arith
 
@@ -113,9 +115,11 @@ number-empty test (p ∷ ps) h = absurd (omega arith)
 -- ---- publishers by connection and uid
 
 pub of-publisher : (conn : ℕ) (uid : ℤ) (p : Pub) → is_publisher conn uid p ≡ true → (p.conn ≡ conn) × (p.uid ≡ uid)
-of-publisher conn uid p h = by (p.conn == conn) (int_eq p.uid uid) (Decides-eqb p.conn conn).0 (Decides-int_eq p.uid uid).0 h
+of-publisher conn uid p h = by (p.conn == conn) (int_eq p.uid uid) (Decides-eqb p.conn conn).0
+    (Decides-int_eq p.uid uid).0 h
   where
-    by : (a b : Bool) → (a ≡ true → p.conn ≡ conn) → (b ≡ true → p.uid ≡ uid) → (a && b) ≡ true → (p.conn ≡ conn) × (p.uid ≡ uid)
+    by : (a b : Bool) → (a ≡ true → p.conn ≡ conn) → (b ≡ true → p.uid ≡ uid) → (a && b) ≡ true
+        → (p.conn ≡ conn) × (p.uid ≡ uid)
     by true true f g h = (f refl, g refl)
     by true false f g h = absurd (cc)
     by false b f g h = absurd (cc)
@@ -166,7 +170,8 @@ total-publishers conn [] = refl
 total-publishers conn (t ∷ ts) =
     let here = number-count (is_of conn) t.pubs in let rest = total-publishers conn ts in omega arith
 
-pub total-push : (test : Pub → Bool) (ts : List Topic) (t : Topic) → total test (ts ++ t ∷ []) ≡ total test ts + number test t.pubs
+pub total-push : (test : Pub → Bool) (ts : List Topic) (t : Topic)
+    → total test (ts ++ t ∷ []) ≡ total test ts + number test t.pubs
 total-push test [] t = omega arith
 total-push test (s ∷ ts) t = let rest = total-push test ts t in omega arith
 
@@ -175,7 +180,8 @@ abbrev pub number_left : (Pub → Bool) → Option Topic → ℕ
 number_left test None = 0
 number_left test (Some t) = number test t.pubs
 
-total-left : (test : Pub → Bool) (o : Option Topic) (ts : List Topic) → total test (cons_option o ts) ≡ number_left test o + total test ts
+total-left : (test : Pub → Bool) (o : Option Topic) (ts : List Topic)
+    → total test (cons_option o ts) ≡ number_left test o + total test ts
 total-left test None ts = omega arith
 total-left test (Some t) ts = refl
 
@@ -183,7 +189,8 @@ total-left test (Some t) ts = refl
 pub left-number : (test : Pub → Bool) (t : Topic) → number_left test (left_of t) ≡ number test t.pubs
 left-number test t = by (ltb 0 (length t.pubs)) (is_persistent t.props || is_retained t.props) refl
   where
-    by : (b flag : Bool) → ltb 0 (length t.pubs) ≡ b → number_left test (cond (b || flag) (Some t) None) ≡ number test t.pubs
+    by : (b flag : Bool) → ltb 0 (length t.pubs) ≡ b
+        → number_left test (cond (b || flag) (Some t) None) ≡ number test t.pubs
     by true flag e = refl
     by false true e = refl
     by false false e = sym (number-empty test t.pubs (grind (arith, nat_tests)))
@@ -191,7 +198,8 @@ left-number test t = by (ltb 0 (length t.pubs)) (is_persistent t.props || is_ret
 -- a change of the first that passes
 total-changed : (test : Pub → Bool) (first : Topic → Bool) (f : Topic → Option Topic) (t : Topic) (ts : List Topic)
     → total test (change_first first f (t ∷ ts))
-    ≡ cond (first t) (number_left test (f t) + total test ts) (number test t.pubs + total test (change_first first f ts))
+    ≡ cond (first t) (number_left test (f t) + total test ts)
+    (number test t.pubs + total test (change_first first f ts))
 total-changed test first f t ts = by (first t)
   where
     by : (b : Bool) → total test (cond b (cons_option (f t) ts) (t ∷ change_first first f ts))
@@ -239,46 +247,57 @@ not-true false h = absurd (cc)
 
 module _ (conn : ℕ) (uid : ℤ) where
   left-without : (test : Pub → Bool) (t : Topic)
-      → number_left test (left_of (without_publisher conn uid t)) ≡ number test (filter (λ p. not (is_publisher conn uid p)) t.pubs)
+      → number_left test (left_of (without_publisher conn uid t))
+      ≡ number test (filter (λ p. not (is_publisher conn uid p)) t.pubs)
   left-without test t = left-number test (without_publisher conn uid t)
 
   -- publishers other than the one that goes stay
-  pub unpublished-others : (test : Pub → Bool) (ts : List Topic) → ((p : Pub) → test p ≡ true → is_publisher conn uid p ≡ false)
+  pub unpublished-others : (test : Pub → Bool) (ts : List Topic)
+      → ((p : Pub) → test p ≡ true → is_publisher conn uid p ≡ false)
       → total test (unpublished ts conn uid) ≡ total test ts
   unpublished-others test ts h =
       total-kept test (has_publisher conn uid) (λ t. left_of (without_publisher conn uid t)) ts
-      (λ t. left-without test t ∙ number-same test (λ p. not (is_publisher conn uid p)) t.pubs (λ p k. not-false (is_publisher conn uid p) (h p k)))
+      (λ t. left-without test t ∙ number-same test (λ p. not (is_publisher conn uid p)) t.pubs
+      (λ p k. not-false (is_publisher conn uid p) (h p k)))
 
   -- of those that pass as it does, as many go as it is counted less
-  pub unpublished-those : (test : Pub → Bool) (ts : List Topic) → ((p : Pub) → is_publisher conn uid p ≡ true → test p ≡ true)
+  pub unpublished-those : (test : Pub → Bool) (ts : List Topic)
+      → ((p : Pub) → is_publisher conn uid p ≡ true → test p ≡ true)
       → total test (unpublished ts conn uid) + total (is_publisher conn uid) ts
       ≡ total test ts + total (is_publisher conn uid) (unpublished ts conn uid)
   unpublished-those test [] h = refl
   unpublished-those test (t ∷ ts) h =
       let a = total-changed test (has_publisher conn uid) (λ t. left_of (without_publisher conn uid t)) t ts in
-      let b = total-changed (is_publisher conn uid) (has_publisher conn uid) (λ t. left_of (without_publisher conn uid t)) t ts in
+      let b = total-changed (is_publisher conn uid) (has_publisher conn uid)
+      (λ t. left_of (without_publisher conn uid t)) t ts in
       by (has_publisher conn uid t) a b (unpublished-those test ts h)
     where
       by : (b : Bool)
           → total test (unpublished (t ∷ ts) conn uid)
-          ≡ cond b (number_left test (left_of (without_publisher conn uid t)) + total test ts) (number test t.pubs + total test (unpublished ts conn uid))
+          ≡ cond b (number_left test (left_of (without_publisher conn uid t)) + total test ts)
+          (number test t.pubs + total test (unpublished ts conn uid))
           → total (is_publisher conn uid) (unpublished (t ∷ ts) conn uid)
-          ≡ cond b (number_left (is_publisher conn uid) (left_of (without_publisher conn uid t)) + total (is_publisher conn uid) ts)
+          ≡ cond b (number_left (is_publisher conn uid) (left_of (without_publisher conn uid t)) + total
+          (is_publisher conn uid) ts)
           (number (is_publisher conn uid) t.pubs + total (is_publisher conn uid) (unpublished ts conn uid))
-          → total test (unpublished ts conn uid) + total (is_publisher conn uid) ts ≡ total test ts + total (is_publisher conn uid) (unpublished ts conn uid)
-          → total test (unpublished (t ∷ ts) conn uid) + (number (is_publisher conn uid) t.pubs + total (is_publisher conn uid) ts)
+          → total test (unpublished ts conn uid) + total (is_publisher conn uid) ts
+          ≡ total test ts + total (is_publisher conn uid) (unpublished ts conn uid)
+          → total test (unpublished (t ∷ ts) conn uid) +
+          (number (is_publisher conn uid) t.pubs + total (is_publisher conn uid) ts)
           ≡ (number test t.pubs + total test ts) + total (is_publisher conn uid) (unpublished (t ∷ ts) conn uid)
       by true a b rest =
           let left = left-without test t in
           let none = left-without (is_publisher conn uid) t in
           let split = number-split test (is_publisher conn uid) t.pubs h in
           let gone =
-          number-none (is_publisher conn uid) (λ p. not (is_publisher conn uid p)) t.pubs (λ p k. not-true (is_publisher conn uid p) k) in
+          number-none (is_publisher conn uid) (λ p. not (is_publisher conn uid p)) t.pubs
+          (λ p k. not-true (is_publisher conn uid p) k) in
           omega arith
       by false a b rest = omega arith
 
   -- where it was counted once, it is counted no more
-  pub unpublished-gone : (ts : List Topic) → total (is_publisher conn uid) ts ≤ 1 → total (is_publisher conn uid) (unpublished ts conn uid) ≡ 0
+  pub unpublished-gone : (ts : List Topic) → total (is_publisher conn uid) ts ≤ 1
+      → total (is_publisher conn uid) (unpublished ts conn uid) ≡ 0
   unpublished-gone [] h = refl
   unpublished-gone (t ∷ ts) h =
       total-changed (is_publisher conn uid) (has_publisher conn uid) (λ t. left_of (without_publisher conn uid t)) t ts
@@ -286,12 +305,14 @@ module _ (conn : ℕ) (uid : ℤ) where
     where
       by : (b : Bool) → has_publisher conn uid t ≡ b
           → (total (is_publisher conn uid) ts ≤ 1 → total (is_publisher conn uid) (unpublished ts conn uid) ≡ 0)
-          → cond b (number_left (is_publisher conn uid) (left_of (without_publisher conn uid t)) + total (is_publisher conn uid) ts)
+          → cond b (number_left (is_publisher conn uid) (left_of (without_publisher conn uid t)) + total
+          (is_publisher conn uid) ts)
           (number (is_publisher conn uid) t.pubs + total (is_publisher conn uid) (unpublished ts conn uid)) ≡ 0
       by true e more =
           let none = left-without (is_publisher conn uid) t in
           let gone =
-          number-none (is_publisher conn uid) (λ p. not (is_publisher conn uid p)) t.pubs (λ p k. not-true (is_publisher conn uid p) k) in
+          number-none (is_publisher conn uid) (λ p. not (is_publisher conn uid p)) t.pubs
+          (λ p k. not-true (is_publisher conn uid p) k) in
           let some = some-counted (is_publisher conn uid) t.pubs e in
           omega arith
       by false e more =
@@ -312,7 +333,8 @@ dropped-total test (t ∷ ts) conn n here gone m start step =
     by (outlives conn t) refl (dropped-total test ts conn n here gone m start step)
   where
     by : (b : Bool) → outlives conn t ≡ b → total test (dropped ts conn) ≡ m ts
-        → total test (map (without_conn conn) (cond b (t ∷ filter (outlives conn) ts) (filter (outlives conn) ts))) ≡ m (t ∷ ts)
+        → total test (map (without_conn conn) (cond b (t ∷ filter (outlives conn) ts) (filter (outlives conn) ts)))
+        ≡ m (t ∷ ts)
     by true e rest = let h = here t in let s = step t ts in omega arith
     by false e rest = let h = gone t e in let s = step t ts in omega arith
 
@@ -320,7 +342,8 @@ dropped-total test (t ∷ ts) conn n here gone m start step =
 pub gone-others : (conn : ℕ) (t : Topic) (test : Pub → Bool) → outlives conn t ≡ false
     → number test (filter (λ p. not (is_of conn p)) t.pubs) ≡ 0
 gone-others conn t test h =
-    by (list_any (is_of conn) t.pubs) (ltb 0 (length (without_conn conn t).pubs)) (is_persistent t.props || is_retained t.props) refl h
+    by (list_any (is_of conn) t.pubs) (ltb 0 (length (without_conn conn t).pubs))
+    (is_persistent t.props || is_retained t.props) refl h
   where
     by : (a b flag : Bool) → ltb 0 (length (without_conn conn t).pubs) ≡ b → (not a || (b || flag)) ≡ false
         → number test (filter (λ p. not (is_of conn p)) t.pubs) ≡ 0
@@ -329,7 +352,8 @@ gone-others conn t test h =
     by true false flag e h = number-empty test (without_conn conn t).pubs (grind (arith, nat_tests))
 
 -- publishers of other connections stay
-pub dropped-others : (test : Pub → Bool) (ts : List Topic) (conn : ℕ) → ((p : Pub) → test p ≡ true → is_of conn p ≡ false)
+pub dropped-others : (test : Pub → Bool) (ts : List Topic) (conn : ℕ)
+    → ((p : Pub) → test p ≡ true → is_of conn p ≡ false)
     → total test (dropped ts conn) ≡ total test ts
 dropped-others test ts conn h =
     dropped-total test ts conn (λ t. number test t.pubs) same
@@ -342,5 +366,6 @@ dropped-others test ts conn h =
 pub dropped-own : (test : Pub → Bool) (ts : List Topic) (conn : ℕ) → ((p : Pub) → test p ≡ true → is_of conn p ≡ true)
     → total test (dropped ts conn) ≡ 0
 dropped-own test ts conn h =
-    dropped-total test ts conn (λ t. 0) (λ t. number-none test (λ p. not (is_of conn p)) t.pubs (λ p k. not-true (is_of conn p) (h p k)))
+    dropped-total test ts conn (λ t. 0)
+    (λ t. number-none test (λ p. not (is_of conn p)) t.pubs (λ p k. not-true (is_of conn p) (h p k)))
     (λ t gone. refl) (λ ts. 0) refl (λ t ts. refl)

@@ -10,21 +10,22 @@ use Rattle.serde_json.specs.Data.{Data}
 use Rattle.nt_values.specs.declared.value.Value.{Value}
 use Rattle.nt_topics.specs.Properties.{is_persistent, is_retained}
 use Rattle.nt_table.specs.declared.index.Index.{Index}
-use Rattle.nt_table.specs.declared.topic.Topic.{Topic}
-use Rattle.nt_table.specs.declared.topic.Pub.{Pub}
-use Rattle.nt_table.specs.declared.topic.Saved.{Saved}
-use Rattle.nt_table.specs.declared.topic.Cause.{Cause}
-use Rattle.nt_table.specs.declared.topic.Cause.TheVariants.{NoSuchUid}
-use Rattle.nt_table.specs.Topics.{without_publisher, is_publisher, is_of, is_named, has_publisher, publishers_of, change_first, if_counts, left_of, with_publisher, new_topic, published, next_after, unpublish_cause, unpublished, dropped, with_update, with_props, with_value, with_put, restored, restored_topic}
+use Rattle.nt_rules.specs.declared.topic.Topic.{Topic}
+use Rattle.nt_rules.specs.declared.topic.Pub.{Pub}
+use Rattle.nt_rules.specs.declared.topic.Saved.{Saved}
+use Rattle.nt_rules.specs.declared.topic.Cause.{Cause}
+use Rattle.nt_rules.specs.declared.topic.Cause.TheVariants.{NoSuchUid}
+use Rattle.nt_rules.specs.topics.Topics.{without_publisher, is_publisher, is_of, is_named, has_publisher, publishers_of, change_first, if_counts, left_of, with_publisher, new_topic, published, next_after, unpublish_cause, unpublished, dropped, with_update, with_props, with_value, with_put, restored, restored_topic}
 use Rattle.nt_table.specs.Index.{one, number, total, is_at, id_named, id_in, id_of, count_in, count_of, IsRising, IsFiled, IsIndexed}
-use Rattle.nt_table.proofs.Positions.{change-none, first-position}
+use Rattle.nt_rules.proofs.Positions.{change-none, first-position}
 use Rattle.nt_table.proofs.Numbers.{any-none, any-some, number-push, number-empty, is-of, of-publisher, is_key, key-same, key-apart, total-publishers, total-push, number_left, total-kept, total-added, unpublished-others, unpublished-those, unpublished-gone, dropped-others, dropped-own}
 use Rattle.nt_table.proofs.Filed.{at-id, position-agree, not-at, KeepsId, left-id, filed-says, rising-changed, rising-dropped, agree-name, agree-publisher, rising-push, refiled, FiledLeft, filed-changed, filed-unless, filed-push, filed-unpublished, filed-closed, unjoined, joined, filed-joined, named-other, named-own}
 
 -- ---- what is found
 
 -- some topic has a publisher that is counted, and none has one that isn't
-any-total : (test : Pub → Bool) (ts : List Topic) (b : Bool) → total test ts ≡ one b → list_any (λ t. list_any test t.pubs) ts ≡ b
+any-total : (test : Pub → Bool) (ts : List Topic) (b : Bool) → total test ts ≡ one b
+    → list_any (λ t. list_any test t.pubs) ts ≡ b
 any-total test ts true h = some ts (omega arith)
   where
     some : (ts : List Topic) → 1 ≤ total test ts → list_any (λ t. list_any test t.pubs) ts ≡ true
@@ -33,22 +34,27 @@ any-total test ts true h = some ts (omega arith)
       where
         by : (n : ℕ) → number test t.pubs ≡ n → (1 ≤ total test ts → list_any (λ t. list_any test t.pubs) ts ≡ true)
             → (list_any test t.pubs || list_any (λ t. list_any test t.pubs) ts) ≡ true
-        by zero e more = ap (λ b. b || list_any (λ t. list_any test t.pubs) ts) (any-none test t.pubs e) ∙ more (omega (arith, h))
+        by zero e more = ap (λ b. b || list_any (λ t. list_any test t.pubs) ts) (any-none test t.pubs e)
+            ∙ more (omega (arith, h))
         by (suc n) e more = ap (λ b. b || list_any (λ t. list_any test t.pubs) ts) (any-some test t.pubs (omega arith))
 any-total test ts false h = none ts h
   where
     none : (ts : List Topic) → total test ts ≡ 0 → list_any (λ t. list_any test t.pubs) ts ≡ false
     none [] h = refl
     none (t ∷ ts) h =
-        ap (λ b. b || list_any (λ t. list_any test t.pubs) ts) (any-none test t.pubs (omega arith)) ∙ none ts (omega arith)
+        ap (λ b. b || list_any (λ t. list_any test t.pubs) ts) (any-none test t.pubs (omega arith))
+        ∙ none ts (omega arith)
 
 module _ (ix : Index) (ts : List Topic) (next : ℕ) (h : IsIndexed ix ts next) where
   pub position-named : (name : List ℕ) → position (is_at (id_named ix name)) ts ≡ position (is_named name) ts
-  position-named name = sym (position-agree (is_named name) (is_at (id_named ix name)) ts (agree-name (id_named ix) (id_of ix) next name ts h.filed))
+  position-named name = sym (position-agree (is_named name) (is_at (id_named ix name)) ts
+      (agree-name (id_named ix) (id_of ix) next name ts h.filed))
 
-  pub position-publisher : (conn : ℕ) (uid : ℤ) → position (is_at (id_of ix conn uid)) ts ≡ position (has_publisher conn uid) ts
+  pub position-publisher : (conn : ℕ) (uid : ℤ)
+      → position (is_at (id_of ix conn uid)) ts ≡ position (has_publisher conn uid) ts
   position-publisher conn uid =
-      sym (position-agree (has_publisher conn uid) (is_at (id_of ix conn uid)) ts (agree-publisher (id_named ix) (id_of ix) next conn uid ts h.filed))
+      sym (position-agree (has_publisher conn uid) (is_at (id_of ix conn uid)) ts
+      (agree-publisher (id_named ix) (id_of ix) next conn uid ts h.filed))
 
   pub any-publisher : (conn : ℕ) (uid : ℤ) → list_any (has_publisher conn uid) ts ≡ is_some (id_of ix conn uid)
   any-publisher conn uid = any-total (is_publisher conn uid) ts (is_some (id_of ix conn uid)) (h.held conn uid)
@@ -62,7 +68,8 @@ module _ (ix : Index) (ts : List Topic) (next : ℕ) (h : IsIndexed ix ts next) 
       by (Some id) e = absurd (cc)
 
   -- the id that a name is said to have is that of the topic found
-  pub said-named : (name : List ℕ) (i : ℕ) (t : Topic) → Some i ≡ position (is_named name) ts → t ≡ get_or ts i t → id_named ix name ≡ Some t.id
+  pub said-named : (name : List ℕ) (i : ℕ) (t : Topic) → Some i ≡ position (is_named name) ts → t ≡ get_or ts i t
+      → id_named ix name ≡ Some t.id
   said-named name i t at item =
       let first =
       first-position (is_at (id_named ix name)) ts ts i t refl (at ∙ sym (position-named name)) item in
@@ -78,7 +85,8 @@ module _ (ix : Index) (ts : List Topic) (next : ℕ) (h : IsIndexed ix ts next) 
   keeps-id t None k = tt
   keeps-id t (Some u) k = k.0
 
-  keeps-number : (test : Pub → Bool) (t : Topic) (o : Option Topic) → Keeps t o → number_left test o ≡ number test t.pubs
+  keeps-number : (test : Pub → Bool) (t : Topic) (o : Option Topic) → Keeps t o
+      → number_left test o ≡ number test t.pubs
   keeps-number test t None k = sym (number-empty test t.pubs k)
   keeps-number test t (Some u) k = ap (number test) k.2
 
@@ -87,22 +95,26 @@ module _ (ix : Index) (ts : List Topic) (next : ℕ) (h : IsIndexed ix ts next) 
   keeps-filed t None k f = tt
   keeps-filed t (Some u) k f = refiled (id_named ix) (id_of ix) next t u k.0 k.1 k.2 f
 
-  pub indexed-kept : (first : Topic → Bool) (f : Topic → Option Topic) → ((t : Topic) → Keeps t (f t)) → IsIndexed ix (change_first first f ts) next
+  pub indexed-kept : (first : Topic → Bool) (f : Topic → Option Topic) → ((t : Topic) → Keeps t (f t))
+      → IsIndexed ix (change_first first f ts) next
   indexed-kept first f keeps = record {
     rising = rising-changed 0 first f ts (λ t. keeps-id t (f t) (keeps t)) h.rising;
     filed =
-        filed-changed (id_named ix) (id_of ix) next (id_named ix) (id_of ix) next first f ts 0 (λ t k e. k) (λ t s k e less g. g)
+        filed-changed (id_named ix) (id_of ix) next (id_named ix) (id_of ix) next first f ts 0 (λ t k e. k)
+        (λ t s k e less g. g)
         (λ t k e. keeps-filed t (f t) (keeps t) k) h.rising h.filed;
     names_below = h.names_below;
     ids_below = h.ids_below;
-    held = λ conn uid. total-kept (is_publisher conn uid) first f ts (λ t. keeps-number (is_publisher conn uid) t (f t) (keeps t)) ∙ h.held conn uid;
+    held = λ conn uid. total-kept (is_publisher conn uid) first f ts
+        (λ t. keeps-number (is_publisher conn uid) t (f t) (keeps t)) ∙ h.held conn uid;
     counted = λ conn. h.counted conn ∙ sym (total-publishers conn ts)
         ∙ sym (total-kept (is_of conn) first f ts (λ t. keeps-number (is_of conn) t (f t) (keeps t)))
         ∙ total-publishers conn (change_first first f ts);
   }
 
   -- what a call leaves, by the cause that refuses it
-  pub indexed-counts : (cause : Option Cause) (after : List Topic) → IsIndexed ix after next → IsIndexed ix (if_counts cause after ts) next
+  pub indexed-counts : (cause : Option Cause) (after : List Topic) → IsIndexed ix after next
+      → IsIndexed ix (if_counts cause after ts) next
   indexed-counts None after k = k
   indexed-counts (Some cause) after k = h
 
@@ -112,7 +124,8 @@ module _ (ix : Index) (ts : List Topic) (next : ℕ) (h : IsIndexed ix ts next) 
       indexed-counts cause (with_put ts conn uid time value)
       (indexed-kept (has_publisher conn uid) (λ t. Some (with_value time value t)) (λ t. (refl, refl, refl)))
 
-  pub indexed-props : (name : List ℕ) (u : Data) (cause : Option Cause) → IsIndexed ix (if_counts cause (with_props ts name u) ts) next
+  pub indexed-props : (name : List ℕ) (u : Data) (cause : Option Cause)
+      → IsIndexed ix (if_counts cause (with_props ts name u) ts) next
   indexed-props name u cause =
       indexed-counts cause (with_props ts name u)
       (indexed-kept (is_named name) (λ t. left_of (with_update u t)) (λ t. left t (with_update u t) refl refl refl))
@@ -136,12 +149,14 @@ module _ (ix : Index) (ts : List Topic) (next : ℕ) (h : IsIndexed ix ts next) 
     once false = omega arith
 
     gone : total (is_publisher conn uid) (unpublished ts conn uid) ≡ 0
-    gone = unpublished-gone conn uid ts (let e = h.held conn uid in let l = once (is_some (id_of ix conn uid)) in omega arith)
+    gone = unpublished-gone conn uid ts (let e = h.held conn uid in let l = once (is_some (id_of ix conn uid)) in
+        omega arith)
 
     held-without : (c : ℕ) (u : ℤ) → total (is_publisher c u) (unpublished ts conn uid) ≡ one (is_some (id_of ix-2 c u))
     held-without c u = by (is_key conn uid c u) refl
       where
-        by : (b : Bool) → is_key conn uid c u ≡ b → total (is_publisher c u) (unpublished ts conn uid) ≡ one (is_some (id_of ix-2 c u))
+        by : (b : Bool) → is_key conn uid c u ≡ b
+            → total (is_publisher c u) (unpublished ts conn uid) ≡ one (is_some (id_of ix-2 c u))
         by true e =
             let same = key-same conn uid c u e in
             ap (λ k. total (is_publisher k u) (unpublished ts conn uid)) (sym same.0)
@@ -254,10 +269,12 @@ module _ (ix : Index) (ts : List Topic) (next : ℕ) (h : IsIndexed ix ts next) 
       (counts : (c : ℕ) → count_of ix-2 c ≡ count_of ix c + one (p.conn == c))
       (fresh : id_of ix p.conn p.uid ≡ None) where
     -- with it, one more is counted
-    held-with : (c : ℕ) (u : ℤ) → total (is_publisher c u) ts + one (is_publisher c u p) ≡ one (is_some (id_of ix-2 c u))
+    held-with : (c : ℕ) (u : ℤ) → total (is_publisher c u) ts + one (is_publisher c u p)
+        ≡ one (is_some (id_of ix-2 c u))
     held-with c u = by (is_key p.conn p.uid c u) refl
       where
-        by : (b : Bool) → is_key p.conn p.uid c u ≡ b → total (is_publisher c u) ts + one b ≡ one (is_some (id_of ix-2 c u))
+        by : (b : Bool) → is_key p.conn p.uid c u ≡ b
+            → total (is_publisher c u) ts + one b ≡ one (is_some (id_of ix-2 c u))
         by true e =
             let same = key-same p.conn p.uid c u e in
             let none : id_of ix c u ≡ None =
@@ -278,7 +295,8 @@ module _ (ix : Index) (ts : List Topic) (next : ℕ) (h : IsIndexed ix ts next) 
         let is = counts c in
         omega (arith, was, is)
 
-    ids-below-with : (next-2 : ℕ) → next ≤ next-2 → id < next-2 → (c : ℕ) (u : ℤ) (k : ℕ) → id_of ix-2 c u ≡ Some k → k < next-2
+    ids-below-with : (next-2 : ℕ) → next ≤ next-2 → id < next-2 → (c : ℕ) (u : ℤ) (k : ℕ) → id_of ix-2 c u ≡ Some k
+        → k < next-2
     ids-below-with next-2 more less c u k e = by (is_key p.conn p.uid c u) (sym (ids c u) ∙ e)
       where
         by : (b : Bool) → cond b (Some id) (id_of ix c u) ≡ Some k → k < next-2
@@ -286,40 +304,49 @@ module _ (ix : Index) (ts : List Topic) (next : ℕ) (h : IsIndexed ix ts next) 
         by false e = let l = h.ids_below c u k e in omega (arith, l, more)
 
     -- to a topic that lives
-    pub indexed-joined : (name : List ℕ) → id_named ix name ≡ Some id → list_any (is_named name) ts ≡ true → ix-2.names ≡ ix.names
+    pub indexed-joined : (name : List ℕ) → id_named ix name ≡ Some id → list_any (is_named name) ts ≡ true
+        → ix-2.names ≡ ix.names
         → IsIndexed ix-2 (change_first (is_named name) (λ t. Some (with_publisher p t)) ts) next
     indexed-joined name at any names = record {
       rising = rising-changed 0 (is_named name) (λ t. Some (with_publisher p t)) ts (λ t. refl) h.rising;
       filed =
-          filed-says (id_named ix) (id_of ix-2) next (id_named ix-2) (id_of ix-2) (change_first (is_named name) (λ t. Some (with_publisher p t)) ts)
+          filed-says (id_named ix) (id_of ix-2) next (id_named ix-2) (id_of ix-2)
+          (change_first (is_named name) (λ t. Some (with_publisher p t)) ts)
           (λ name. ap (λ m. get_by_text m name) names) (λ c u. refl)
           (filed-joined (id_named ix) (id_of ix) next (id_of ix-2) p id ids fresh name ts 0 at h.rising h.filed);
       names_below = λ name id e. h.names_below name id (ap (λ m. get_by_text m name) (sym names) ∙ e);
       ids_below = ids-below-with next (omega arith) (h.names_below name id at);
       held = λ c u. added (is_publisher c u) ∙ held-with c u;
-      counted = λ c. counted-with c ∙ sym (added (is_of c)) ∙ total-publishers c (change_first (is_named name) (λ t. Some (with_publisher p t)) ts);
+      counted = λ c. counted-with c ∙ sym (added (is_of c))
+          ∙ total-publishers c (change_first (is_named name) (λ t. Some (with_publisher p t)) ts);
     }
       where
-        added : (test : Pub → Bool) → total test (change_first (is_named name) (λ t. Some (with_publisher p t)) ts) ≡ total test ts + one (test p)
+        added : (test : Pub → Bool) → total test (change_first (is_named name) (λ t. Some (with_publisher p t)) ts)
+            ≡ total test ts + one (test p)
         added test =
-            total-added test (is_named name) (λ t. Some (with_publisher p t)) (one (test p)) ts (λ t. number-push test t.pubs p) any
+            total-added test (is_named name) (λ t. Some (with_publisher p t)) (one (test p)) ts
+            (λ t. number-push test t.pubs p) any
 
-    pub published-joined : (name typ : List ℕ) (props : Data) → id_named ix name ≡ Some id → list_any (is_named name) ts ≡ true
+    pub published-joined : (name typ : List ℕ) (props : Data) → id_named ix name ≡ Some id
+        → list_any (is_named name) ts ≡ true
         → ix-2.names ≡ ix.names → IsIndexed ix-2 (published ts next name typ props p) (next_after ts next name)
     published-joined name typ props at any names =
         subst
-        (λ b. IsIndexed ix-2 (cond b (change_first (is_named name) (λ t. Some (with_publisher p t)) ts) (ts ++ new_topic next name typ props (p ∷ []) ∷ [])) (cond b next (next + 1)))
+        (λ b. IsIndexed ix-2 (cond b (change_first (is_named name) (λ t. Some (with_publisher p t)) ts)
+        (ts ++ new_topic next name typ props (p ∷ []) ∷ [])) (cond b next (next + 1)))
         (sym any) (indexed-joined name at any names)
 
     -- to a new one
     pub indexed-begun : (name typ : List ℕ) (props : Data) → id ≡ next
-        → ((n : List ℕ) → id_named ix-2 n ≡ cond (bytes_eq name n) (Some next) (id_named ix n)) → list_any (is_named name) ts ≡ false
+        → ((n : List ℕ) → id_named ix-2 n ≡ cond (bytes_eq name n) (Some next) (id_named ix n))
+        → list_any (is_named name) ts ≡ false
         → IsIndexed ix-2 (ts ++ new_topic next name typ props (p ∷ []) ∷ []) (next + 1)
     indexed-begun name typ props is names none = record {
       rising = rising-push (id_named ix) (id_of ix) next 0 ts new refl (omega arith) h.filed h.rising;
       filed =
           filed-push (id_named ix) (id_of ix) next (id_named ix-2) (id_of ix-2) (next + 1) ts new
-          (filed-unless (id_named ix) (id_of ix) next (id_named ix-2) (id_of ix-2) (next + 1) (is_named name) ts none old h.filed)
+          (filed-unless (id_named ix) (id_of ix) next (id_named ix-2) (id_of ix-2) (next + 1) (is_named name) ts none
+          old h.filed)
           (record {
             below = omega arith;
             named =
@@ -328,12 +355,14 @@ module _ (ix : Index) (ts : List Topic) (next : ℕ) (h : IsIndexed ix ts next) 
             published =
                 joined (id_named ix) (id_of ix) next (id_of ix-2) p id ids fresh (new_topic next name typ props []) new
                 ((Decides-eqb id next).1 is) refl refl
-                (λ c u. sym (ap one (not-at (id_of ix c u) (new_topic next name typ props []) (λ k e same. let l = h.ids_below c u k e in omega (arith, same, l)))));
+                (λ c u. sym (ap one (not-at (id_of ix c u) (new_topic next name typ props [])
+                (λ k e same. let l = h.ids_below c u k e in omega (arith, same, l)))));
           });
       names_below = λ n k e. below n k (bytes_eq name n) (sym (names n) ∙ e);
       ids_below = ids-below-with (next + 1) (omega arith) (omega (arith, is));
       held = λ c u. total-push (is_publisher c u) ts new ∙ pushed (is_publisher c u) ∙ held-with c u;
-      counted = λ c. counted-with c ∙ sym (pushed (is_of c)) ∙ sym (total-push (is_of c) ts new) ∙ total-publishers c (ts ++ new ∷ []);
+      counted = λ c. counted-with c ∙ sym (pushed (is_of c)) ∙ sym (total-push (is_of c) ts new)
+          ∙ total-publishers c (ts ++ new ∷ []);
     }
       where
         new : Topic
@@ -347,45 +376,57 @@ module _ (ix : Index) (ts : List Topic) (next : ℕ) (h : IsIndexed ix ts next) 
         below n k false e = let l = h.names_below n k e in omega (arith, l)
 
         apart : (t : Topic) → IsFiled (id_named ix) (id_of ix) next t → (m : ℕ) → m ≡ next → is_at (Some m) t ≡ false
-        apart t f m e = not-at (Some m) t (λ k s same. let l = f.below in let at : m ≡ k = cc in omega (arith, same, l, at, e))
+        apart t f m e = not-at (Some m) t (λ k s same. let l = f.below in let at : m ≡ k = cc in
+            omega (arith, same, l, at, e))
 
-        old : (t : Topic) → is_named name t ≡ false → IsFiled (id_named ix) (id_of ix) next t → IsFiled (id_named ix-2) (id_of ix-2) (next + 1) t
+        old : (t : Topic) → is_named name t ≡ false → IsFiled (id_named ix) (id_of ix) next t
+            → IsFiled (id_named ix-2) (id_of ix-2) (next + 1) t
         old t other f = record {
           below = let l = f.below in omega (arith, l);
-          named = named-other (id_named ix) (id_named ix-2) name (Some next) names t other (apart t f next refl) f.named;
-          published = unjoined (id_named ix) (id_of ix) next (id_of ix-2) p id ids fresh t (apart t f id is) f.published;
+          named = named-other (id_named ix) (id_named ix-2) name (Some next) names t other (apart t f next refl)
+              f.named;
+          published = unjoined (id_named ix) (id_of ix) next (id_of ix-2) p id ids fresh t (apart t f id is)
+              f.published;
         }
 
     pub published-begun : (name typ : List ℕ) (props : Data) → id ≡ next
-        → ((n : List ℕ) → id_named ix-2 n ≡ cond (bytes_eq name n) (Some next) (id_named ix n)) → list_any (is_named name) ts ≡ false
+        → ((n : List ℕ) → id_named ix-2 n ≡ cond (bytes_eq name n) (Some next) (id_named ix n))
+        → list_any (is_named name) ts ≡ false
         → IsIndexed ix-2 (published ts next name typ props p) (next_after ts next name)
     published-begun name typ props is names none =
         subst
-        (λ b. IsIndexed ix-2 (cond b (change_first (is_named name) (λ t. Some (with_publisher p t)) ts) (ts ++ new_topic next name typ props (p ∷ []) ∷ [])) (cond b next (next + 1)))
+        (λ b. IsIndexed ix-2 (cond b (change_first (is_named name) (λ t. Some (with_publisher p t)) ts)
+        (ts ++ new_topic next name typ props (p ∷ []) ∷ [])) (cond b next (next + 1)))
         (sym none) (indexed-begun name typ props is names none)
 
   -- ---- a topic that begins with no publisher
 
   pub indexed-restored : (ix-2 : Index) (saved : Saved)
-      → ((n : List ℕ) → id_named ix-2 n ≡ cond (bytes_eq saved.name n) (Some next) (id_named ix n)) → ix-2.conns ≡ ix.conns
+      → ((n : List ℕ) → id_named ix-2 n ≡ cond (bytes_eq saved.name n) (Some next) (id_named ix n))
+      → ix-2.conns ≡ ix.conns
       → list_any (is_named saved.name) ts ≡ false → IsIndexed ix-2 (restored ts next saved) (next + 1)
   indexed-restored ix-2 saved names conns none = record {
     rising = rising-push (id_named ix) (id_of ix) next 0 ts new refl (omega arith) h.filed h.rising;
     filed =
         filed-push (id_named ix) (id_of ix) next (id_named ix-2) (id_of ix-2) (next + 1) ts new
-        (filed-unless (id_named ix) (id_of ix) next (id_named ix-2) (id_of ix-2) (next + 1) (is_named saved.name) ts none old h.filed)
+        (filed-unless (id_named ix) (id_of ix) next (id_named ix-2) (id_of ix-2) (next + 1) (is_named saved.name) ts
+        none old h.filed)
         (record {
           below = omega arith;
           named =
-              named-own (id_named ix) (id_named ix-2) saved.name (Some next) names new refl ((Decides-eqb next next).1 refl)
+              named-own (id_named ix) (id_named ix-2) saved.name (Some next) names new refl
+              ((Decides-eqb next next).1 refl)
               (λ n. not-at (id_named ix n) new (λ k e same. let l = h.names_below n k e in omega (arith, same, l)));
           published = λ c u.
-              sym (ap one (ap (λ o. is_at o new) (says c u) ∙ not-at (id_of ix c u) new (λ k e same. let l = h.ids_below c u k e in omega (arith, same, l))));
+              sym (ap one (ap (λ o. is_at o new) (says c u)
+              ∙ not-at (id_of ix c u) new (λ k e same. let l = h.ids_below c u k e in omega (arith, same, l))));
         });
     names_below = λ n k e. below n k (bytes_eq saved.name n) (sym (names n) ∙ e);
     ids_below = λ c u k e. let l = h.ids_below c u k (sym (says c u) ∙ e) in omega (arith, l);
-    held = λ c u. total-push (is_publisher c u) ts new ∙ pushed (is_publisher c u) ∙ h.held c u ∙ sym (ap (λ o. one (is_some o)) (says c u));
-    counted = λ c. ap (λ m. count_in (get nat_eq m c)) conns ∙ h.counted c ∙ sym (total-publishers c ts) ∙ sym (pushed (is_of c))
+    held = λ c u. total-push (is_publisher c u) ts new ∙ pushed (is_publisher c u) ∙ h.held c u
+        ∙ sym (ap (λ o. one (is_some o)) (says c u));
+    counted = λ c. ap (λ m. count_in (get nat_eq m c)) conns ∙ h.counted c ∙ sym (total-publishers c ts)
+        ∙ sym (pushed (is_of c))
         ∙ sym (total-push (is_of c) ts new) ∙ total-publishers c (ts ++ new ∷ []);
   }
     where
@@ -402,12 +443,14 @@ module _ (ix : Index) (ts : List Topic) (next : ℕ) (h : IsIndexed ix ts next) 
       below n k true e = let same : next ≡ k = cc in omega (arith, same)
       below n k false e = let l = h.names_below n k e in omega (arith, l)
 
-      old : (t : Topic) → is_named saved.name t ≡ false → IsFiled (id_named ix) (id_of ix) next t → IsFiled (id_named ix-2) (id_of ix-2) (next + 1) t
+      old : (t : Topic) → is_named saved.name t ≡ false → IsFiled (id_named ix) (id_of ix) next t
+          → IsFiled (id_named ix-2) (id_of ix-2) (next + 1) t
       old t other f = record {
         below = let l = f.below in omega (arith, l);
         named =
             named-other (id_named ix) (id_named ix-2) saved.name (Some next) names t other
-            (not-at (Some next) t (λ k s same. let l = f.below in let at : next ≡ k = cc in omega (arith, same, l, at))) f.named;
+            (not-at (Some next) t (λ k s same. let l = f.below in let at : next ≡ k = cc in omega (arith, same, l, at)))
+            f.named;
         published = λ c u. f.published c u ∙ sym (ap (λ o. one (is_at o t)) (says c u));
       }
 
@@ -440,7 +483,8 @@ module _ (ix : Index) (ts : List Topic) (next : ℕ) (h : IsIndexed ix ts next) 
 
 -- ---- ids that rise after a call
 
-pub rising-counts : (cause : Option Cause) (after before : List Topic) → IsRising 0 after → IsRising 0 before → IsRising 0 (if_counts cause after before)
+pub rising-counts : (cause : Option Cause) (after before : List Topic) → IsRising 0 after → IsRising 0 before
+    → IsRising 0 (if_counts cause after before)
 rising-counts None after before r s = r
 rising-counts (Some cause) after before r s = s
 
@@ -448,7 +492,8 @@ pub rising-unpublished : (ts : List Topic) (conn : ℕ) (uid : ℤ) (cause : Opt
     → IsRising 0 (if_counts cause (unpublished ts conn uid) ts)
 rising-unpublished ts conn uid cause r =
     rising-counts cause (unpublished ts conn uid) ts
-    (rising-changed 0 (has_publisher conn uid) (λ t. left_of (without_publisher conn uid t)) ts (λ t. left-id t (without_publisher conn uid t) refl) r) r
+    (rising-changed 0 (has_publisher conn uid) (λ t. left_of (without_publisher conn uid t)) ts
+    (λ t. left-id t (without_publisher conn uid t) refl) r) r
 
 pub rising-props : (ts : List Topic) (name : List ℕ) (u : Data) (cause : Option Cause) → IsRising 0 ts
     → IsRising 0 (if_counts cause (with_props ts name u) ts)

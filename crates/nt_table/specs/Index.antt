@@ -5,9 +5,10 @@ use Rattle.std.specs.Option.{is_some}
 use Rattle.std.specs.List.{Contains}
 use Rattle.std.specs.HashMap.{HashMap, get, get_by_text, hash_map_len}
 use Rattle.nt_table.specs.declared.index.Index.{Index}
-use Rattle.nt_table.specs.declared.topic.Topic.{Topic}
-use Rattle.nt_table.specs.declared.topic.Pub.{Pub}
-use Rattle.nt_table.specs.Topics.{is_publisher, is_named, has_publisher, has_conn, publishers_of, without_conn, outlives}
+use Rattle.nt_rules.specs.declared.topic.Topic.{Topic}
+use Rattle.nt_rules.specs.declared.topic.Pub.{Pub}
+use Rattle.nt_rules.specs.Sorted.{RisesFrom}
+use Rattle.nt_rules.specs.topics.Topics.{is_publisher, is_named, has_publisher, has_conn, publishers_of, without_conn, outlives}
 
 abbrev pub one : Bool → ℕ
 one b = if b then 1 else 0
@@ -50,8 +51,7 @@ total test (t ∷ topics) = number test t.pubs + total test topics
 
 -- the ids rise, from no less than this one
 abbrev pub IsRising : ℕ → List Topic → Type 0
-IsRising least [] = Unit {0}
-IsRising least (t ∷ topics) = (least ≤ t.id) × IsRising (t.id + 1) topics
+IsRising least topics = RisesFrom (λ t. t.id) least topics
 
 -- a topic that has its own name and publishers, and no others, in what names and publishers are said to have
 pub record IsFiled (names : List ℕ → Option ℕ) (ids : ℕ → ℤ → Option ℕ) (next : ℕ) (t : Topic) : Type 0 where

@@ -1,4 +1,1 @@
-pub mod Topics
-pub mod Changes
-pub mod Puts
 pub mod Index

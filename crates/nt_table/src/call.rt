@@ -4,17 +4,17 @@ ghost use Rattle.std.specs.Prelude.{◌≡◌, ◌+◌, ◌<◌, vec_len, pos, o
 ghost use Rattle.std.specs.List.{position, find};
 ghost use Rattle.std.specs.List.Sorted.{IsStrictlyIncreasing};
 ghost use Rattle.nt_table.specs.Index.{is_at, left_by, IsRising, AreAmong};
-ghost use Rattle.nt_table.specs.Topics.{is_named, has_publisher, change_at, change_first, if_counts, left_of, with_update, new_topic, publish_cause, published, next_after, unpublish_cause, unpublished, update_cause, with_props, put_cause, with_put, dropped, restore_cause, restored, restored_topic, at_zero};
+ghost use Rattle.nt_rules.specs.topics.Topics.{is_named, has_publisher, change_at, change_first, if_counts, left_of, with_update, new_topic, publish_cause, published, next_after, unpublish_cause, unpublished, update_cause, with_props, put_cause, with_put, dropped, restore_cause, restored, restored_topic, at_zero};
 ghost use Rattle.nt_topics.specs.Properties.{updated};
-ghost use Rattle.nt_table.specs.Changes.{outcome_of, told_by, update_change, publish_changes, unpublish_changes, update_changes, put_changes, drop_changes, restored_value, restore_changes};
+ghost use Rattle.nt_rules.specs.topics.Changes.{outcome_of, told_by, update_change, publish_changes, unpublish_changes, update_changes, put_changes, drop_changes, restored_value, restore_changes};
 
 use crate::edit::{
-    add_publisher, changed, drop_publisher, end_of, ended, ends_of_conn, leave, leave_everywhere,
-    one, put_to, settle, started, tell_end, told_name,
+    add_publisher, changed, drop_publisher, end_of, ended, leave, one, put_to, settle, started,
+    tell_end,
 };
 use crate::lookup::{is_too_long, lives_on, position_at};
-use crate::topic::{Cause, Change, Changes, Outcome, Pub, Pubs, Saved, Timed, Topic};
-use nt_topics::{Props, TopicName, TypeName, Update};
+use nt_rules::{Cause, Change, Changes, Outcome, Pub, Pubs, Saved, Timed, Topic};
+use nt_topics::{Name, Props, TopicName, Update};
 use nt_values::Value;
 use std::alloc::{AllocError, Global};
 
@@ -123,7 +123,7 @@ fn update_topic(
         alloc,
         Change::Props {
             id: i64::from(topic.id),
-            name: told_name(alloc, &topic.name)?,
+            name: Name::of(alloc, topic.name.as_str())?,
             update,
         },
     )?;
@@ -237,21 +237,6 @@ pub fn close(
     Ok(changes)
 }
 
-/// Takes the connection's publishers out of all topics, and the topics that end with them, in one
-/// walk.
-pub fn close_in_one_walk(
-    alloc: Global,
-    topics: &mut Vec<Topic>,
-    conn: u32,
-) -> Result<Changes, AllocError>
-    ensures changes { IfOk result (λ changes. changes ≡ drop_changes topics.old.items conn) }
-    ensures topics { OnOk result (topics.new.items ≡ dropped topics.old.items conn) }
-{
-    let changes = ends_of_conn(alloc, topics, conn)?;
-    leave_everywhere(alloc, topics, conn);
-    Ok(changes)
-}
-
 /// What a restored topic tells.
 fn restore_changes(alloc: Global, id: u32, saved: &Saved) -> Result<Changes, AllocError>
     ensures { IfOk result (λ changes. changes ≡ restore_changes id saved.now) }
@@ -262,6 +247,16 @@ fn restore_changes(alloc: Global, id: u32, saved: &Saved) -> Result<Changes, All
         changes.push(changed(alloc, id, &saved.name, 0, value)?)?;
     }
     Ok(changes)
+}
+
+/// A restored value has the time 0.
+fn at_zero(value: Option<Value>) -> Option<Timed>
+    ensures { result ≡ option_map at_zero value }
+{
+    match value {
+        Some(value) => Some(Timed { time: 0, value }),
+        None => None,
+    }
 }
 
 /// A saved topic, as it begins again.
@@ -275,16 +270,6 @@ fn restored_topic(alloc: Global, id: u32, saved: Saved) -> Topic
         props: saved.props,
         value: at_zero(saved.value),
         pubs: Pubs::empty(alloc),
-    }
-}
-
-/// A restored value has the time 0.
-fn at_zero(value: Option<Value>) -> Option<Timed>
-    ensures { result ≡ option_map at_zero value }
-{
-    match value {
-        Some(value) => Some(Timed { time: 0, value }),
-        None => None,
     }
 }
 

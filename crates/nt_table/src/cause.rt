@@ -3,22 +3,13 @@
 ghost use Rattle.std.specs.Prelude.{◌≡◌};
 ghost use Rattle.std.specs.List.{position};
 ghost use Rattle.nt_table.specs.Index.{IsIndexed};
-ghost use Rattle.nt_table.specs.Topics.{is_named, room_cause, new_cause, publish_cause, put_cause_to, restore_cause};
+ghost use Rattle.nt_rules.specs.topics.Topics.{is_named, room_cause, new_cause, publish_cause, put_cause_to, restore_cause};
 
 use crate::index::Index;
 use crate::lookup::{holds_newer, is_fit, is_saved_fit, is_too_long};
-use crate::topic::{Cause, Pub, Saved, Topic};
+use nt_rules::{Cause, LAST_ID, MOST_PUBLISHERS, MOST_TOPICS, Pub, Saved, Topic};
 use nt_topics::{Props, TopicName, is_special};
 use nt_values::Value;
-
-/// The most publishers of one connection.
-const MOST_PUBLISHERS: usize = 16_384;
-
-/// The most living topics.
-const MOST_TOPICS: usize = 16_384;
-
-/// The last id of a topic.
-const LAST_ID: u32 = 268_435_455;
 
 /// The first cause that refuses a further topic, where there are so many and this id is next.
 fn room_cause(count: usize, next: u32) -> Option<Cause>

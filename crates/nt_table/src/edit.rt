@@ -1,24 +1,17 @@
 //! Changing topics, and telling the changes.
 
 ghost use Rattle.std.specs.Prelude.{◌≡◌, ◌<◌, vec_len, remove, map, filter, not, pos, None, [], ◌∷◌, ◌++◌, IfOk, OnOk};
-ghost use Rattle.nt_table.specs.Topics.{change_at, is_publisher, is_of, left_of, if_counts, put_cause_to, with_value, with_publisher, without_publisher, without_conn, new_topic, outlives, dropped};
+ghost use Rattle.nt_rules.specs.topics.Topics.{change_at, is_publisher, is_of, left_of, if_counts, put_cause_to, with_value, with_publisher, without_publisher, without_conn, new_topic, outlives, dropped};
 ghost use Rattle.nt_table.specs.Index.{left_by};
-ghost use Rattle.nt_table.specs.Changes.{outcome_of, ended, end_of, put_change, drop_changes};
+ghost use Rattle.nt_rules.specs.topics.Changes.{outcome_of, ended, end_of, put_change, drop_changes};
 
 use crate::cause::put_cause;
 use crate::lookup::{is_publisher, lives_on, outlives};
-use crate::topic::{Change, Changes, Outcome, Pub, Pubs, Timed, Topic};
+use nt_rules::{Change, Changes, Outcome, Pub, Pubs, Timed, Topic};
 use nt_topics::{Name, Props, TopicName, TypeName};
 use nt_values::Value;
 use std::alloc::{AllocError, Global};
 use std::mem;
-
-/// A topic's name, as a change tells it.
-pub fn told_name(alloc: Global, name: &TopicName) -> Result<Name, AllocError>
-    ensures { IfOk result (λ told. told ≡ name.now) }
-{
-    Name::of(alloc, name.as_str())
-}
 
 /// One change.
 pub fn one(alloc: Global, change: Change) -> Result<Changes, AllocError>
@@ -35,7 +28,7 @@ pub fn ended(alloc: Global, topic: &Topic) -> Result<Change, AllocError>
 {
     Ok(Change::Ended {
         id: i64::from(topic.id),
-        name: told_name(alloc, &topic.name)?,
+        name: Name::of(alloc, topic.name.as_str())?,
     })
 }
 
@@ -61,7 +54,7 @@ pub fn started(
 {
     Ok(Change::Started {
         id: i64::from(id),
-        name: told_name(alloc, name)?,
+        name: Name::of(alloc, name.as_str())?,
         typ: typ.copy(alloc)?,
         props: props.copy()?,
     })
@@ -79,7 +72,7 @@ pub fn changed(
 {
     Ok(Change::Changed {
         id: i64::from(id),
-        name: told_name(alloc, name)?,
+        name: Name::of(alloc, name.as_str())?,
         time,
         value: value.copy(alloc)?,
     })
@@ -96,45 +89,18 @@ pub fn add_publisher(topic: &mut Topic, publisher: Pub) -> Result<(), AllocError
 pub fn drop_publisher(alloc: Global, topic: &mut Topic, conn: u32, uid: i64)
     ensures { topic.new ≡ without_publisher conn uid topic.old }
 {
-    let publishers = mem::replace(&mut topic.pubs, Pubs::empty(alloc));
-    topic.pubs = without_publisher(publishers, conn, uid);
-}
-
-fn without_publisher(publishers: Pubs, conn: u32, uid: i64) -> Pubs
-    ensures { result ≡ filter (λ p. not (is_publisher conn uid p)) publishers }
-{
-    let mut publishers = publishers.into_vec();
-    keep_other_publishers(&mut publishers, conn, uid);
-    Pubs::of_vec(publishers)
-}
-
-fn keep_other_publishers(publishers: &mut Vec<Pub>, conn: u32, uid: i64)
-    ensures { publishers.new.items
-        ≡ filter (λ p. not (is_publisher conn uid p)) publishers.old.items }
-{
+    let mut publishers = mem::replace(&mut topic.pubs, Pubs::empty(alloc)).into_vec();
     publishers.retain(|p| !is_publisher(p, conn, uid));
+    topic.pubs = Pubs::of_vec(publishers);
 }
 
 /// Takes a connection's publishers out of those of a topic.
 fn drop_conn(alloc: Global, topic: &mut Topic, conn: u32)
     ensures { topic.new ≡ without_conn conn topic.old }
 {
-    let publishers = mem::replace(&mut topic.pubs, Pubs::empty(alloc));
-    topic.pubs = without_conn(publishers, conn);
-}
-
-fn without_conn(publishers: Pubs, conn: u32) -> Pubs
-    ensures { result ≡ filter (λ p. not (is_of conn p)) publishers }
-{
-    let mut publishers = publishers.into_vec();
-    keep_other_conns(&mut publishers, conn);
-    Pubs::of_vec(publishers)
-}
-
-fn keep_other_conns(publishers: &mut Vec<Pub>, conn: u32)
-    ensures { publishers.new.items ≡ filter (λ p. not (is_of conn p)) publishers.old.items }
-{
+    let mut publishers = mem::replace(&mut topic.pubs, Pubs::empty(alloc)).into_vec();
     publishers.retain(|p| p.conn != conn);
+    topic.pubs = Pubs::of_vec(publishers);
 }
 
 /// Puts a value to its publisher's topic, or says why it is refused.
@@ -158,14 +124,8 @@ pub fn put_to(
         return Ok(Outcome::Ignored(cause));
     }
     let changes = one(alloc, changed(alloc, topic.id, &topic.name, time, &value)?)?;
-    set_value(topic, time, value);
-    Ok(Outcome::Done(changes))
-}
-
-fn set_value(topic: &mut Topic, time: u64, value: Value)
-    ensures { topic.new ≡ with_value time value topic.old }
-{
     topic.value = Some(Timed { time, value });
+    Ok(Outcome::Done(changes))
 }
 
 /// Takes the topic at a position out where nothing of it is left.
@@ -174,15 +134,8 @@ pub fn settle(topics: &mut Vec<Topic>, i: usize)
     ensures { topics.new.items ≡ change_at left_of i topics.old.items }
 {
     if !lives_on(&topics[i]) {
-        remove_at(topics, i);
+        let _gone = topics.remove(i);
     }
-}
-
-fn remove_at(topics: &mut Vec<Topic>, i: usize)
-    requires { i < vec_len topics.old }
-    ensures { topics.new.items ≡ remove topics.old.items i }
-{
-    let _gone = topics.remove(i);
 }
 
 /// Tells the end of a topic, where it ends with the connection's publishers.
@@ -209,7 +162,7 @@ pub fn leave(alloc: Global, topics: &mut Vec<Topic>, i: usize, conn: u32)
     if outlives(&topics[i], conn) {
         drop_conn(alloc, &mut topics[i], conn);
     } else {
-        remove_at(topics, i);
+        let _gone = topics.remove(i);
     }
 }
 

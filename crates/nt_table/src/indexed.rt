@@ -4,19 +4,20 @@ ghost use Rattle.std.specs.Prelude.{◌≡◌, ◌+◌, ℕ, List, false, option
 ghost use Rattle.std.specs.List.{list_any, find, position};
 ghost use Rattle.serde_json.specs.Data.{Data};
 ghost use Rattle.nt_table.specs.Index.{id_named, id_of, is_at, IsRising, IsIndexed, StaysIndexed, AreSaid};
-ghost use Rattle.nt_table.specs.Topics.{is_named, has_publisher, if_counts, publish_cause, published, next_after, unpublish_cause, unpublished, update_cause, with_props, put_cause, with_put, dropped, restore_cause, restored};
-ghost use Rattle.nt_table.specs.Changes.{outcome_of, publish_changes, unpublish_changes, update_changes, put_changes, drop_changes, restore_changes};
+ghost use Rattle.nt_rules.specs.topics.Topics.{is_named, has_publisher, if_counts, publish_cause, published, next_after, unpublish_cause, unpublished, update_cause, with_props, put_cause, with_put, dropped, restore_cause, restored};
+ghost use Rattle.nt_rules.specs.topics.Changes.{outcome_of, publish_changes, unpublish_changes, update_changes, put_changes, drop_changes, restore_changes};
 
 use crate::call;
 use crate::cause::{publish_cause, restore_cause};
+use crate::edit::{ends_of_conn, leave_everywhere};
 use crate::index::Index;
 use crate::lookup::position_at;
-use crate::topic::{Change, Changes, Outcome, Pub, Saved, Topic};
+use nt_rules::{Change, Changes, Outcome, Pub, Saved, Topic};
 use nt_topics::{Props, TopicName, Update};
 use nt_values::Value;
 use std::alloc::{AllocError, Global};
 
-/// As many topics are taken out one by one. Each moves those behind it, so that for more of them
+/// As many topics are taken out one by one. Each moves those after it, so that for more of them
 /// one walk over all is cheaper.
 const FEW_TOPICS: usize = 64;
 
@@ -253,7 +254,9 @@ fn close_topics(
 {
     let ids = index.ids_of_conn(alloc, conn)?;
     if ids.len() > FEW_TOPICS {
-        return call::close_in_one_walk(alloc, topics, conn);
+        let changes = ends_of_conn(alloc, topics, conn)?;
+        leave_everywhere(alloc, topics, conn);
+        return Ok(changes);
     }
     call::close(alloc, topics, ids.as_slice(), conn)
 }

@@ -7,11 +7,7 @@ mod cause;
 mod edit;
 mod index;
 mod indexed;
-mod law;
 mod lookup;
 mod table;
-mod topic;
 
-pub use law::{puts_leave_the_greatest, same_puts_hold_the_same, the_last_taken_is_held};
 pub use table::Table;
-pub use topic::{Cause, Change, Changes, Outcome, Pub, Pubs, Saved, Timed, Topic};

@@ -3,14 +3,11 @@
 ghost use Rattle.std.specs.Prelude.{◌≡◌, ◌<◌, Some, IfSome, not, option_copied, filter, length, ◌&&◌, bytes_eq};
 ghost use Rattle.std.specs.List.{list_any, find, position};
 ghost use Rattle.nt_table.specs.Index.{IsRising, is_at};
-ghost use Rattle.nt_table.specs.Topics.{is_publisher, is_of, has_conn, is_named, lives_on, outlives, is_fit, is_older, is_value_of, is_too_long, is_saved_fit};
+ghost use Rattle.nt_rules.specs.topics.Topics.{is_publisher, is_of, has_conn, is_named, lives_on, outlives, is_fit, is_older, is_value_of, is_too_long, is_saved_fit};
 
-use crate::topic::{Pub, Topic};
+use nt_rules::{MOST_PROPERTIES, Pub, Topic};
 use nt_topics::Props;
 use nt_values::Value;
-
-/// The most bytes of the compact text of a topic's properties.
-const MOST_PROPERTIES: u64 = 65_536;
 
 /// Whether the publisher is this connection's, with this uid.
 pub fn is_publisher(publisher: &Pub, conn: u32, uid: i64) -> bool
@@ -37,7 +34,7 @@ fn position_of_id(topics: &[Topic], id: u32) -> Option<usize>
 {
     match position_without_gaps(topics, id) {
         Some(i) if topics[i].id == id => Some(i),
-        _ => position_by_search(topics, id),
+        _ => topics.binary_search_by_key(&id, |t| t.id).ok(),
     }
 }
 
@@ -48,14 +45,6 @@ fn position_without_gaps(topics: &[Topic], id: u32) -> Option<usize>
     let first = topics.first()?.id;
     let i = id.checked_sub(first)? as usize;
     if i < topics.len() { Some(i) } else { None }
-}
-
-/// The position of the topic of this id, where ids rise, by a binary search.
-fn position_by_search(topics: &[Topic], id: u32) -> Option<usize>
-    requires { IsRising 0 topics.now }
-    ensures { result ≡ position (is_at (Some id)) topics.now }
-{
-    topics.binary_search_by_key(&id, |t| t.id).ok()
 }
 
 /// Whether the connection publishes to the topic.
@@ -78,18 +67,11 @@ fn others_in(publishers: &[Pub], conn: u32) -> usize
     count
 }
 
-/// Whether the topic has this name.
-fn is_named(topic: &Topic, name: &str) -> bool
-    ensures { result ≡ is_named name.now topic.now }
-{
-    topic.name.as_str() == name
-}
-
 /// The position of the topic of this name, with no index.
 fn position_of_name(topics: &[Topic], name: &str) -> Option<usize>
     ensures { result ≡ position (is_named name.now) topics.now }
 {
-    topics.iter().position(|t| is_named(t, name))
+    topics.iter().position(|t| t.name.as_str() == name)
 }
 
 /// The topic of this name, with no index.
@@ -126,19 +108,12 @@ pub fn is_too_long(props: &Props) -> bool
     props.text_len() > MOST_PROPERTIES
 }
 
-/// Whether the value is of the type.
-fn is_value_of(value: &Value, typ: &str) -> bool
-    ensures { result ≡ is_value_of typ.now value.now }
-{
-    value.fits(typ)
-}
-
 /// Whether a saved value, where there is one, is of the type.
 pub fn is_saved_fit(value: &Option<Value>, typ: &str) -> bool
     ensures { result ≡ is_saved_fit typ.now value.now }
 {
     match value {
-        Some(value) => is_value_of(value, typ),
+        Some(value) => value.fits(typ),
         None => true,
     }
 }
@@ -148,7 +123,7 @@ pub fn is_fit(topic: &Topic, conn: u32, uid: i64, value: &Value) -> bool
     ensures { result ≡ is_fit conn uid value.now topic.now }
 {
     publishes_as(topic.pubs.as_slice(), topic.typ.as_str(), conn, uid)
-        && is_value_of(value, topic.typ.as_str())
+        && value.fits(topic.typ.as_str())
 }
 
 /// Whether such a publisher has this type.

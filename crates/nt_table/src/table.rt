@@ -1,16 +1,16 @@
 //! The table of topics.
 
-ghost use Rattle.nt_table.specs.declared.topic.Topic.{Topic};
+ghost use Rattle.nt_rules.specs.declared.topic.Topic.{Topic};
 ghost use Rattle.std.specs.Prelude.{ℕ, ◌≡◌, ◌+◌, ◌^◌, ◌<◌, true, false, [], OnOk, OnErr, IfOk, option_copied, length, slice_get, Some};
 ghost use Rattle.std.specs.List.{find, list_any};
 ghost use Rattle.nt_topics.specs.Names.{is_special};
-ghost use Rattle.nt_table.specs.Topics.{Holds, is_named, if_counts, publish_cause, published, next_after, unpublish_cause, unpublished, update_cause, with_props, put_cause, with_put, dropped, restore_cause, restored};
-ghost use Rattle.nt_table.specs.Changes.{outcome_of, publish_changes, unpublish_changes, update_changes, put_changes, drop_changes, restore_changes};
+ghost use Rattle.nt_rules.specs.topics.Topics.{TableState, is_named, if_counts, publish_cause, published, next_after, unpublish_cause, unpublished, update_cause, with_props, put_cause, with_put, dropped, restore_cause, restored};
+ghost use Rattle.nt_rules.specs.topics.Changes.{outcome_of, publish_changes, unpublish_changes, update_changes, put_changes, drop_changes, restore_changes};
 
 use crate::index::Index;
 use crate::indexed::{close, publish, put, restore, set_props, topic_of_name, unpublish};
 use crate::lookup;
-use crate::topic::{Changes, Outcome, Pub, Saved, Topic};
+use nt_rules::{Changes, Outcome, Pub, Saved, Topic};
 use nt_topics::{Props, TopicName, TypeName, Update};
 use nt_values::Value;
 use std::alloc::{AllocError, Global};
@@ -18,7 +18,7 @@ use std::marker::Model;
 
 /// The living topics. A table that met want of memory has failed for good: nothing is said of its
 /// topics any more, and each later call that changes it fails too.
-#[derive(Debug, Drop)]
+#[derive(Drop)]
 pub struct Table {
     failed: bool,
     topics: Vec<Topic>,
@@ -28,12 +28,12 @@ pub struct Table {
 
 impl Model for Table {
     ghost use Rattle.std.specs.Prelude.{◌≡◌, false};
-    ghost use Rattle.nt_table.specs.Topics.{Holds};
+    ghost use Rattle.nt_rules.specs.topics.Topics.{TableState};
     ghost use Rattle.nt_table.specs.Index.{IsIndexed};
     ghost use Rattle.nt_topics.specs.contracts.properties.Props as props;
     ghost use Rattle.std.specs.Coded.{codes};
 
-    ghost Value = { Holds };
+    ghost Value = { TableState };
 
     ghost coded = { Prim.hlevel (codes, props.the_row.coded) };
 
@@ -259,7 +259,7 @@ impl Table {
     }
 
     /// The topic at this index, by rising id. In a table that hasn't failed its id is below those
-    /// of the topics behind it, and below the next one.
+    /// of the topics after it, and below the next one.
     pub fn at(&self, i: usize) -> &Topic
         requires { i < length self.now.topics }
         ensures topic { slice_get self.now.topics i ≡ Some result.now }

@@ -141,9 +141,9 @@ all_pass-put test k d (member l e ms) fits h =
         → all_pass test (member l d ms) ≡ true → all_pass test (member l e rest) ≡ true
         → all_pass test (match_ordering o (member k d (member l e ms)) (member l d ms)
         (member l e rest)) ≡ true
-    by Less rest before here behind = before
-    by Equal rest before here behind = here
-    by Greater rest before here behind = behind
+    by Less rest before here after = before
+    by Equal rest before here after = here
+    by Greater rest before here after = after
 
 -- properties stay properties after a change
 pub all_pass-changed : (k : List ℕ) (d : Data) (ms : Members) → is_change d ≡ true

@@ -23,7 +23,7 @@ client_name bytes =
     else (if nat_lt 256 (length bytes) then Err TooLong
     else Ok bytes))
 
--- the client's name, or why there is none: what stands behind `/nt/`, percent-decoded
+-- the client's name, or why there is none: what follows `/nt/`, percent-decoded
 abbrev pub path_name : List ℕ → Result (List ℕ) PathFault
 path_name target =
     if is_nt target then client_name (percent_decode (drop 4 (before_query target))) else Err NotNt

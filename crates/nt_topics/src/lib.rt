@@ -7,7 +7,7 @@ mod properties;
 mod tree;
 mod version;
 
-pub use name::{ClientName, Name, NameFault, TopicName, TypeName, is_special};
+pub use name::{ClientName, Limited, Name, NameFault, TopicName, TypeName, is_special};
 pub use path::{PathFault, path_name};
 pub use properties::{Props, Update};
 pub use version::Version;

@@ -1,12 +1,12 @@
 //! Names. Their limits count the bytes of their UTF-8.
 
-ghost use Rattle.std.specs.Prelude.{◌≡◌, ◌<◌, ◌≤◌, ◌&&◌, List, ℕ, [], length, nat_lt, nat_le, IfOk, Err, IsErrOf};
-ghost use Rattle.nt_topics.specs.Names.{is_special, topic_name, type_name};
+ghost use Rattle.std.specs.Prelude.{◌≡◌, ◌<◌, ◌≤◌, List, ℕ, [], length, IfOk, Err, IsErrOf};
+ghost use Rattle.nt_topics.specs.Names.{is_special, limited};
 ghost use Rattle.nt_topics.specs.declared.name.NameFault.TheVariants.{Memory};
 
 use nt_values::Text;
 use std::alloc::{AllocError, Global};
-use std::marker::Model;
+use std::marker::{Model, PhantomData};
 use thiserror::Error;
 
 /// The most bytes of a topic's name, and of a type string.
@@ -38,7 +38,7 @@ impl From<AllocError> for NameFault {
 }
 
 /// Any text, as a name.
-#[derive(Debug, Drop)]
+#[derive(Drop)]
 pub struct Name {
     text: Text,
 }
@@ -81,187 +81,97 @@ impl Name {
     }
 }
 
-/// The name of a topic: 1 to 1,024 bytes.
-#[derive(Debug, Drop)]
-pub struct TopicName {
+/// A name of at least one byte and at most `MOST`, of what the kind says.
+#[derive(Drop)]
+pub struct Limited<K, const MOST: usize> {
     text: Text,
+    kind: PhantomData<K>,
 }
 
-impl Model for TopicName {
-    ghost use Rattle.std.specs.Prelude.{◌<◌, ◌≤◌, List, ℕ, length};
+/// The kind of a topic's name.
+pub enum OfTopic {}
 
-    ghost Value = { List ℕ };
+/// The kind of a type string.
+pub enum OfType {}
 
-    ghost view = { λ n. n.text };
+/// The kind of a client's name.
+pub enum OfClient {}
 
-    ghost invariant = { λ n. (0 < length n.text) × (length n.text ≤ 1024) };
-}
-
-impl TopicName {
-    /// This text, as a topic's name.
-    ///
-    /// # Errors
-    ///
-    /// `Empty` exactly for the empty text, `TooLong` exactly for one of more than 1,024 bytes, and
-    /// want of memory.
-    pub fn of(alloc: Global, text: &str) -> Result<TopicName, NameFault>
-        ensures ok { IfOk result (λ n. n ≡ text.now) }
-        ensures within { IfOk result (λ n. (0 < length n) × (length n ≤ 1024)) }
-        ensures empty { IsErrOf result NameFault.Empty → length text.now ≡ 0 }
-        ensures is_empty { length text.now ≡ 0 → result ≡ Err NameFault.Empty }
-        ensures too_long { IsErrOf result NameFault.TooLong → 1024 < length text.now }
-        ensures is_too_long { 1024 < length text.now → result ≡ Err NameFault.TooLong }
-    {
-        check_length(text, MOST_TOPIC_BYTES)?;
-        Ok(TopicName {
-            text: Text::of(alloc, text)?,
-        })
-    }
-
-    /// This text, as a topic's name, where it is within the limits. It takes no memory.
-    pub fn of_text(text: Text) -> Option<TopicName>
-        ensures { result ≡ topic_name text }
-    {
-        if !is_limited(text.as_str(), MOST_TOPIC_BYTES) {
-            return None;
-        }
-        Some(TopicName { text })
-    }
-
-    /// The text of the name.
-    pub fn as_str(&self) -> &str
-        ensures text { result.now ≡ self.now }
-        ensures within { (0 < length self.now) × (length self.now ≤ 1024) }
-    {
-        self.text.as_str()
-    }
-
-    /// An equal name. It fails for want of memory alone.
-    pub fn copy(&self, alloc: Global) -> Result<TopicName, AllocError>
-        ensures { IfOk result (λ n. n ≡ self.now) }
-    {
-        Ok(TopicName {
-            text: Text::of(alloc, self.text.as_str())?,
-        })
-    }
-}
+/// The name of a topic: 1 to 1,024 bytes.
+pub type TopicName = Limited<OfTopic, MOST_TOPIC_BYTES>;
 
 /// A type string: 1 to 1,024 bytes.
-#[derive(Debug, Drop)]
-pub struct TypeName {
-    text: Text,
-}
-
-impl Model for TypeName {
-    ghost use Rattle.std.specs.Prelude.{◌<◌, ◌≤◌, List, ℕ, length};
-
-    ghost Value = { List ℕ };
-
-    ghost view = { λ n. n.text };
-
-    ghost invariant = { λ n. (0 < length n.text) × (length n.text ≤ 1024) };
-}
-
-impl TypeName {
-    /// This text, as a type string.
-    ///
-    /// # Errors
-    ///
-    /// `Empty` exactly for the empty text, `TooLong` exactly for one of more than 1,024 bytes, and
-    /// want of memory.
-    pub fn of(alloc: Global, text: &str) -> Result<TypeName, NameFault>
-        ensures ok { IfOk result (λ n. n ≡ text.now) }
-        ensures within { IfOk result (λ n. (0 < length n) × (length n ≤ 1024)) }
-        ensures empty { IsErrOf result NameFault.Empty → length text.now ≡ 0 }
-        ensures is_empty { length text.now ≡ 0 → result ≡ Err NameFault.Empty }
-        ensures too_long { IsErrOf result NameFault.TooLong → 1024 < length text.now }
-        ensures is_too_long { 1024 < length text.now → result ≡ Err NameFault.TooLong }
-    {
-        check_length(text, MOST_TOPIC_BYTES)?;
-        Ok(TypeName {
-            text: Text::of(alloc, text)?,
-        })
-    }
-
-    /// This text, as a type string, where it is within the limits. It takes no memory.
-    pub fn of_text(text: Text) -> Option<TypeName>
-        ensures { result ≡ type_name text }
-    {
-        if !is_limited(text.as_str(), MOST_TOPIC_BYTES) {
-            return None;
-        }
-        Some(TypeName { text })
-    }
-
-    /// The type string.
-    pub fn as_str(&self) -> &str
-        ensures text { result.now ≡ self.now }
-        ensures within { (0 < length self.now) × (length self.now ≤ 1024) }
-    {
-        self.text.as_str()
-    }
-
-    /// An equal type string. It fails for want of memory alone.
-    pub fn copy(&self, alloc: Global) -> Result<TypeName, AllocError>
-        ensures { IfOk result (λ n. n ≡ self.now) }
-    {
-        Ok(TypeName {
-            text: Text::of(alloc, self.text.as_str())?,
-        })
-    }
-}
+pub type TypeName = Limited<OfType, MOST_TOPIC_BYTES>;
 
 /// The name of a client, as a connection gives it: 1 to 256 bytes.
-#[derive(Debug, Drop)]
-pub struct ClientName {
-    text: Text,
-}
+pub type ClientName = Limited<OfClient, MOST_CLIENT_BYTES>;
 
-impl Model for ClientName {
+impl<K, const MOST: usize> Model for Limited<K, MOST> {
     ghost use Rattle.std.specs.Prelude.{◌<◌, ◌≤◌, List, ℕ, length};
 
     ghost Value = { List ℕ };
 
     ghost view = { λ n. n.text };
 
-    ghost invariant = { λ n. (0 < length n.text) × (length n.text ≤ 256) };
+    ghost invariant = { λ n. (0 < length n.text) × (length n.text ≤ MOST) };
 }
 
-impl ClientName {
-    /// This text, as a client's name.
+impl<K, const MOST: usize> Limited<K, MOST> {
+    /// This text, as such a name.
     ///
     /// # Errors
     ///
-    /// `Empty` exactly for the empty text, `TooLong` exactly for one of more than 256 bytes, and
+    /// `Empty` exactly for the empty text, `TooLong` exactly for one of more than `MOST` bytes, and
     /// want of memory.
-    pub fn of(alloc: Global, text: &str) -> Result<ClientName, NameFault>
+    pub fn of(alloc: Global, text: &str) -> Result<Limited<K, MOST>, NameFault>
         ensures ok { IfOk result (λ n. n ≡ text.now) }
-        ensures within { IfOk result (λ n. (0 < length n) × (length n ≤ 256)) }
+        ensures within { IfOk result (λ n. (0 < length n) × (length n ≤ MOST)) }
         ensures empty { IsErrOf result NameFault.Empty → length text.now ≡ 0 }
         ensures is_empty { length text.now ≡ 0 → result ≡ Err NameFault.Empty }
-        ensures too_long { IsErrOf result NameFault.TooLong → 256 < length text.now }
-        ensures is_too_long { 256 < length text.now → result ≡ Err NameFault.TooLong }
+        ensures too_long { IsErrOf result NameFault.TooLong → MOST < length text.now }
+        ensures is_too_long { MOST < length text.now → result ≡ Err NameFault.TooLong }
     {
-        check_length(text, MOST_CLIENT_BYTES)?;
-        Ok(ClientName {
+        if text.is_empty() {
+            return Err(NameFault::Empty);
+        }
+        if text.len() > MOST {
+            return Err(NameFault::TooLong);
+        }
+        Ok(Limited {
             text: Text::of(alloc, text)?,
+            kind: PhantomData,
+        })
+    }
+
+    /// This text, as such a name, where it is within the limits. It takes no memory.
+    pub fn of_text(text: Text) -> Option<Limited<K, MOST>>
+        ensures { result ≡ limited MOST text }
+    {
+        let length = text.as_str().len();
+        if length == 0 || length > MOST {
+            return None;
+        }
+        Some(Limited {
+            text,
+            kind: PhantomData,
         })
     }
 
     /// The text of the name.
     pub fn as_str(&self) -> &str
         ensures text { result.now ≡ self.now }
-        ensures within { (0 < length self.now) × (length self.now ≤ 256) }
+        ensures within { (0 < length self.now) × (length self.now ≤ MOST) }
     {
         self.text.as_str()
     }
 
     /// An equal name. It fails for want of memory alone.
-    pub fn copy(&self, alloc: Global) -> Result<ClientName, AllocError>
+    pub fn copy(&self, alloc: Global) -> Result<Limited<K, MOST>, AllocError>
         ensures { IfOk result (λ n. n ≡ self.now) }
     {
-        Ok(ClientName {
+        Ok(Limited {
             text: Text::of(alloc, self.text.as_str())?,
+            kind: PhantomData,
         })
     }
 }
@@ -271,28 +181,4 @@ pub fn is_special(name: &str) -> bool
     ensures { result ≡ is_special name.now }
 {
     name.as_bytes().first() == Some(&b'$')
-}
-
-/// Refuses a text that is empty or has more than `most` bytes.
-fn check_length(text: &str, most: usize) -> Result<(), NameFault>
-    ensures empty { length text.now ≡ 0 → result ≡ Err NameFault.Empty }
-    ensures too_long { 0 < length text.now → most < length text.now → result ≡ Err NameFault.TooLong }
-    ensures ok { IfOk result (λ _. (0 < length text.now) × (length text.now ≤ most)) }
-    ensures only_empty { IsErrOf result NameFault.Empty → length text.now ≡ 0 }
-    ensures only_too_long { IsErrOf result NameFault.TooLong → most < length text.now }
-{
-    if text.is_empty() {
-        return Err(NameFault::Empty);
-    }
-    if text.len() > most {
-        return Err(NameFault::TooLong);
-    }
-    Ok(())
-}
-
-/// Whether a text has 1 to `most` bytes.
-fn is_limited(text: &str, most: usize) -> bool
-    ensures { result ≡ (nat_lt 0 (length text.now) && nat_le (length text.now) most) }
-{
-    !text.is_empty() && text.len() <= most
 }

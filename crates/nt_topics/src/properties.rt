@@ -14,7 +14,7 @@ use std::marker::Model;
 
 /// The properties of a topic: a JSON object without null, whose numbers are whole. Contracts see
 /// its tree.
-#[derive(Debug, Drop)]
+#[derive(Drop)]
 pub struct Props {
     tree: Value,
     // the length of the compact text
@@ -165,7 +165,7 @@ impl Props {
 
 /// An update of properties: a JSON object whose numbers are whole, where null deletes a key.
 /// Contracts see its tree.
-#[derive(Debug, Drop)]
+#[derive(Drop)]
 pub struct Update {
     tree: Value,
     // the length of the compact text

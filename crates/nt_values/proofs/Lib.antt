@@ -4,3 +4,4 @@ pub mod RoundedOff
 pub mod Wholes
 pub mod Formats
 pub mod OneAnswer
+pub mod Sendable

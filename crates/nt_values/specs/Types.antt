@@ -31,7 +31,7 @@ value_number (values.Ints list) = 18
 value_number (values.Floats list) = 19
 value_number (values.Texts list) = 20
 
--- the payload of a list of texts: a count of four bytes, and each text behind its length of four bytes
+-- the payload of a list of texts: a count of four bytes, and each text after its length of four bytes
 abbrev pub texts_len : List (List ℕ) → ℕ
 texts_len texts = 4 + sum_by (λ text. 4 + length text) texts
 

@@ -8,7 +8,7 @@ use std::alloc::{AllocError, Global};
 
 /// A value of a topic (NetworkTables 4.1, "Supported Data Types"). Doubles and floats are the bit patterns of
 /// IEEE 754's binary64 and binary32.
-#[derive(Debug, Drop)]
+#[derive(Drop)]
 pub enum Value {
     /// `boolean`.
     Bool(bool),
@@ -107,7 +107,7 @@ fn sized(count: usize, width: u64) -> u64
     width.saturating_mul(count as u64)
 }
 
-// The size of a list of texts: its count, and each text behind its length.
+// The size of a list of texts: its count, and each text after its length.
 fn texts_size(texts: &[Text]) -> u64
     ensures { result ≡ min (texts_len texts.now) (2 ^ 64 - 1) }
 {

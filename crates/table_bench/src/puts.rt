@@ -1,6 +1,7 @@
 //! Topics, each with one publisher, and puts that go round them.
 
-use nt_table::{Change, Outcome, Table};
+use nt_rules::{Change, Outcome};
+use nt_table::Table;
 use nt_topics::{NameFault, Props, TopicName, TypeName};
 use nt_values::Value;
 use std::alloc::{AllocError, Global};

@@ -12,7 +12,7 @@ use Rattle.wpilog_read.specs.declared.fault.Stop.{Stop}
 use Rattle.wpilog_read.specs.declared.fault.Stop.TheVariants.{Wanting}
 use Rattle.wpilog_read.specs.Meaning.{IsHeaderKind}
 use Rattle.wpilog_read.specs.Reading.{not_built}
-use Rattle.wpilog_read.specs.Run.{Reading, start, behind_header, next_of}
+use Rattle.wpilog_read.specs.Run.{Reading, start, after_header, next_of}
 use Rattle.wpilog_read.proofs.Runs.{next-closed, begun-opened}
 
 -- where reading stops for a fault of this kind
@@ -37,20 +37,20 @@ starts-other bytes other = by_test (starts_with nat_eq bytes header) refl where
   by_test false e = refl
   by_test true e = absurd (other (ap (take 12) ((starts-header bytes true e).0 refl)))
 
--- behind the header
+-- after the header
 abbrev pub behind : Reading → Reading
 behind r = record r { begun = true; at = r.at + 12; rest = drop 12 r.rest }
 
 -- the header is read where it is
-header-read : (r : Reading) → r.begun ≡ false → take 12 r.rest ≡ header → behind_header r ≡ Ok (behind r)
-unfolding behind_header
+header-read : (r : Reading) → r.begun ≡ false → take 12 r.rest ≡ header → after_header r ≡ Ok (behind r)
+unfolding after_header
 header-read r closed same =
     let test : ltb (length r.rest) 12 ≡ false = le-ltb _ _ (omega (arith, length-take 12 r.rest, ap length same)) in
     rw (closed, test, starts-so r.rest same) refl
 
 -- elsewhere it is at fault
-pub header-closed : (kind : LogKind) (r : Reading) → r.begun ≡ false → IsHeaderKind kind r.rest → behind_header r ≡ Err (stop_of kind)
-unfolding behind_header
+pub header-closed : (kind : LogKind) (r : Reading) → r.begun ≡ false → IsHeaderKind kind r.rest → after_header r ≡ Err (stop_of kind)
+unfolding after_header
 header-closed Truncated r closed short = let test : ltb (length r.rest) 12 ≡ true = lt-ltb _ _ short in rw (closed, test) refl
 header-closed NotBuilt r closed h = let test : ltb (length r.rest) 12 ≡ false = le-ltb _ _ h.0 in rw (closed, test, starts-other r.rest h.1) refl
 
@@ -67,20 +67,20 @@ header-or bytes = by_length (ltb (length bytes) 12) refl where
 
 -- ---- whole logs
 
--- a reader that stands behind the header of a log
+-- a reader that stands after the header of a log
 abbrev pub opened : ℕ → Entries → List ℕ → Reading
 opened at live rest = record { begun = true; live = live; at = at; rest = rest; fault = None }
 
 -- the header of a log is read
-pub header-opens : (records : List ℕ) → behind_header (start (header ++ records)) ≡ Ok (opened 12 [] records)
+pub header-opens : (records : List ℕ) → after_header (start (header ++ records)) ≡ Ok (opened 12 [] records)
 header-opens records = header-read (start (header ++ records)) refl refl
 
 -- ---- the next item, where the header is not read yet
 
--- where the header is, the next item is the one behind it
-pub next-behind : (r : Reading) → r.begun ≡ false → take 12 r.rest ≡ header → next_of r ≡ next_of (behind r)
+-- where the header is, the next item is the one after it
+pub next-after : (r : Reading) → r.begun ≡ false → take 12 r.rest ≡ header → next_of r ≡ next_of (behind r)
 unfolding next_of
-next-behind r closed same = rw (header-read r closed same, begun-opened (behind r) refl) refl
+next-after r closed same = rw (header-read r closed same, begun-opened (behind r) refl) refl
 
 -- where fewer bytes are left, they are wanting
 pub next-wanting : (r : Reading) → r.begun ≡ false → IsHeaderKind Truncated r.rest → next_of r ≡ Err Wanting

@@ -3,7 +3,7 @@ pub mod Steps
 pub mod Records
 pub mod Starts
 pub mod Says
-pub mod Places
+pub mod Offsets
 pub mod Stable
 pub mod Runs
 pub mod Headers

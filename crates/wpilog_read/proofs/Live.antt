@@ -29,7 +29,7 @@ module _ {X : Type 0} where
   abbrev nothing : Option X
   nothing = None
 
-  -- the first entry's, or what those behind it keep
+  -- the first entry's, or what those after it keep
   at-first : (e : ℕ × X) (es : List (ℕ × X)) (id : ℕ) → at (e ∷ es) id ≡ cond (eqb id e.0) (Some e.1) (at es id)
   at-first e es id = ap (λ (test : Bool). cond test (Some e.1) (at es id)) (unsigned_tied id e.0)
 
@@ -41,7 +41,7 @@ module _ {X : Type 0} where
   at-other : (e : ℕ × X) (es : List (ℕ × X)) (id : ℕ) → id ≢ e.0 → at (e ∷ es) id ≡ at es id
   at-other e es id other = at-first e es id ∙ ap (λ (test : Bool). cond test (Some e.1) (at es id)) (ne_eqb id e.0 other)
 
-  -- a change of what is kept for an id, as it is seen behind an entry of another id
+  -- a change of what is kept for an id, as it is seen after an entry of another id
   behind-first : (e : ℕ × X) (es changed : List (ℕ × X)) (id other : ℕ) (found : Option X) → id ≢ e.0 → at changed other ≡ cond (eqb other id) found (at es other) → at (e ∷ changed) other ≡ cond (eqb other id) found (at (e ∷ es) other)
   behind-first e es changed id other found differs behind = at-first e changed other ∙ ap (λ (kept : Option X). cond (eqb other e.0) (Some e.1) kept) behind ∙ by_test (eqb other id) refl where
     by_test : (test : Bool) → eqb other id ≡ test → cond (eqb other e.0) (Some e.1) (cond test found (at es other)) ≡ cond test found (at (e ∷ es) other)
@@ -103,7 +103,7 @@ module _ {X : Type 0} where
 
   -- ---- each id stands once, as entries come and end
 
-  -- an id that is not kept is not kept behind the first entry
+  -- an id that is not kept is not kept after the first entry
   behind-new : (e : ℕ × X) (es : List (ℕ × X)) (id : ℕ) → at (e ∷ es) id ≡ None → at es id ≡ None
   behind-new e es id new = by_test (eqb id e.0) (sym (at-first e es id) ∙ new) where
     by_test : (test : Bool) → cond test (Some e.1) (at es id) ≡ None → at es id ≡ None
@@ -123,7 +123,7 @@ module _ {X : Type 0} where
   once-inserted [] id value new once = (refl, tt)
   once-inserted (e ∷ es) id value new once = once-by (nat_cmp id e.0) e es id value refl new once (once-inserted es id value (behind-new e es id new) once.1)
 
-  -- and so behind the first entry
+  -- and so after the first entry
   once-left : (test : Bool) (e : ℕ × X) (es : List (ℕ × X)) (id : ℕ) → AreOnce (e ∷ es) → AreOnce (remove_entry (is_at (nat_cmp id)) es) → AreOnce (cond test es (e ∷ remove_entry (is_at (nat_cmp id)) es))
   once-left true e es id once behind = once.1
   once-left false e es id once behind = (at-removed es id e.0 once.1 ∙ ap (cond (eqb e.0 id) nothing) once.0 ∙ either-none (eqb e.0 id), behind)
@@ -140,17 +140,17 @@ module _ {X : Type 0} where
 
 -- ---- the entries that are live in a log
 
--- each id stands once behind an item
+-- each id stands once after an item
 item-once : (live : Entries) (item : LogItem) → AreOnce live → MayCome live item → AreOnce (live_after live item)
 item-once live (Start time id name typ meta) once may = once-inserted live id _ (not-kept (type_of live id) may.1) once
 item-once live (Value time id value) once may = once
 item-once live (Finish time id) once may = once-removed live id once
 
--- and behind all of them
+-- and after all of them
 items-once : (items : List ItemAt) (at : ℕ) (live behind : Entries) (bytes : List ℕ) → AreOnce live → AreItems at live bytes items behind → AreOnce behind
 items-once [] at live behind bytes once is = subst (λ (w : Entries). AreOnce w) (sym is.1) once
 items-once (x ∷ xs) at live behind bytes once is = items-once xs (at + length is.0) (live_after live x.item) behind is.1 (item-once live x.item once is.4.may_come) is.5
 
--- behind a Finish its entry is not live, and each other is as it was
+-- after a Finish its entry is not live, and each other is as it was
 pub finish-ends : (bytes : List ℕ) (items : List ItemAt) (live : Entries) (time id other : ℕ) → IsLog bytes items live → type_of (live_after live (Finish time id)) other ≡ cond (eqb other id) None (type_of live other)
 finish-ends bytes items live time id other log = at-removed live id other (items-once items 12 [] live log.records tt log.items_are)

@@ -23,11 +23,11 @@ from_time first entry size rest = number_at Wanting (first / 16 % 8 + 1) rest >>
 abbrev from_size : ℕ → ℕ → List ℕ → Result (Fields × List ℕ) Stop
 from_size first entry rest = number_at Wanting (first / 4 % 4 + 1) rest >>= λ size. from_time first entry size.0 size.1
 
--- a record was taken from the front
+-- a record was taken from the prefix
 pub record TakesRecord (bytes : List ℕ) (fields : Fields) (rest : List ℕ) : Type 0 where
-  pub front : List ℕ
-  pub is : IsRecord front fields
-  pub parts : bytes ≡ front ++ rest
+  pub prefix : List ℕ
+  pub is : IsRecord prefix fields
+  pub parts : bytes ≡ prefix ++ rest
 
 -- what is read is spelled so
 pub record_at-takes : (bytes : List ℕ) (x : Fields × List ℕ) → record_at bytes ≡ Ok x → TakesRecord bytes x.0 x.1
@@ -45,7 +45,7 @@ record_at-takes (first ∷ bytes) x e =
     let parts : bytes ≡ entry.field ++ (size.field ++ (time.field ++ (d.0.0 ++ d.0.1))) =
     parts_then entry.field entry.parts (parts_then size.field size.parts (parts_then time.field time.parts payload.parts)) in
     subst (λ (w : Fields × List ℕ). TakesRecord (first ∷ bytes) w.0 w.1) (ok_is (made first a.0.0 c.0.0 d.0.0, d.0.1) x d.2) (record {
-      front = first ∷ (entry.field ++ (size.field ++ (time.field ++ d.0.0)));
+      prefix = first ∷ (entry.field ++ (size.field ++ (time.field ++ d.0.0)));
       is = record {
         first = first;
         entry = entry.field;
@@ -61,10 +61,10 @@ record_at-takes (first ∷ bytes) x e =
     })
 
 -- what is spelled so is read, whatever follows
-pub record_at-again : (front rest : List ℕ) (fields : Fields) → IsRecord front fields → record_at (front ++ rest) ≡ Ok (fields, rest)
+pub record_at-again : (prefix rest : List ℕ) (fields : Fields) → IsRecord prefix fields → record_at (prefix ++ rest) ≡ Ok (fields, rest)
 unfolding record_at
-record_at-again front rest fields h =
-    let parts : front ++ rest ≡ h.first ∷ (h.entry ++ (h.size ++ (h.time ++ (fields.payload ++ rest)))) = ap (λ (w : List ℕ). w ++ rest) h.whole ∙ simp append_assoc in
+record_at-again prefix rest fields h =
+    let parts : prefix ++ rest ≡ h.first ∷ (h.entry ++ (h.size ++ (h.time ++ (fields.payload ++ rest)))) = ap (λ (w : List ℕ). w ++ rest) h.whole ∙ simp append_assoc in
     rw (
       parts,
       number_at-again Wanting (h.first % 4 + 1) h.entry (h.size ++ (h.time ++ (fields.payload ++ rest))) h.first_is.entry_is,
@@ -77,20 +77,20 @@ record_at-again front rest fields h =
     ) refl
 
 -- a record has a first byte
-pub record-some : (front : List ℕ) (fields : Fields) → IsRecord front fields → 0 < length front
-record-some front fields h = rw h.whole (omega arith)
+pub record-some : (prefix : List ℕ) (fields : Fields) → IsRecord prefix fields → 0 < length prefix
+record-some prefix fields h = rw h.whole (omega arith)
 
--- what is behind a record is an end of the bytes, and shorter
-pub record IsBehind (bytes rest : List ℕ) : Type 0 where
-  pub front : List ℕ
-  pub parts : bytes ≡ front ++ rest
-  pub some : 0 < length front
+-- what is after a record is an end of the bytes, and shorter
+pub record IsAfter (bytes rest : List ℕ) : Type 0 where
+  pub prefix : List ℕ
+  pub parts : bytes ≡ prefix ++ rest
+  pub some : 0 < length prefix
 
 -- what follows a record that is read
-pub record_at-behind : (bytes : List ℕ) (x : Fields × List ℕ) → record_at bytes ≡ Ok x → IsBehind bytes x.1
-record_at-behind bytes x e =
+pub record_at-after : (bytes : List ℕ) (x : Fields × List ℕ) → record_at bytes ≡ Ok x → IsAfter bytes x.1
+record_at-after bytes x e =
     let t = record_at-takes bytes x e in
-    record { front = t.front; parts = t.parts; some = record-some t.front x.0 t.is }
+    record { prefix = t.prefix; parts = t.parts; some = record-some t.prefix x.0 t.is }
 
 -- where no record is read its end is wanting
 pub record_at-stops : (bytes : List ℕ) → StopsAt Wanting (record_at bytes)

@@ -8,65 +8,65 @@ use Rattle.wpilog_read.specs.declared.fault.NextFault.TheVariants.{Log, Memory}
 use Rattle.wpilog_read.specs.declared.fault.Stop.{Stop}
 use Rattle.wpilog_read.specs.declared.fault.Stop.TheVariants.{Wanting, Known}
 use Rattle.wpilog_read.specs.declared.item_at.ItemAt.{ItemAt}
-use Rattle.wpilog_read.specs.Run.{Reading, start, fed, behind_header, record_next, next_of, settle, broken, EndsBy, given, Reads, Ends, IsReading, StandsBy, Stands, IsEndedBy, IsEnded}
+use Rattle.wpilog_read.specs.Run.{Reading, start, fed, after_header, record_next, next_of, settle, broken, EndsBy, given, Reads, Ends, IsReading, StandsBy, Stands, IsEndedBy, IsEnded}
 use Rattle.wpilog_read.proofs.Steps.{done, ok_is}
 use Rattle.wpilog_read.proofs.Stable.{more, header-more, header-again, header-wrong, next-more, next-wrong, next-fault}
 
 -- ---- the header read, if it is whole
 
--- with a header that is read the reader stands behind it
-pub settle-ok : (r h : Reading) → behind_header r ≡ Ok h → settle r ≡ h
+-- with a header that is read the reader stands after it
+pub settle-ok : (r h : Reading) → after_header r ≡ Ok h → settle r ≡ h
 unfolding settle
 settle-ok r h e = rw e refl
 
 -- with none it stands where it was
-pub settle-err : (r : Reading) (stop : Stop) → behind_header r ≡ Err stop → settle r ≡ r
+pub settle-err : (r : Reading) (stop : Stop) → after_header r ≡ Err stop → settle r ≡ r
 unfolding settle
 settle-err r stop e = rw e refl
 
--- the next item is the same behind the header
+-- the next item is the same after the header
 pub next-settle : (r : Reading) → next_of (settle r) ≡ next_of r
 unfolding next_of
-next-settle r = by_header (behind_header r) refl where
-  by_header : (h : Result Reading Stop) → behind_header r ≡ h → next_of (settle r) ≡ next_of r
+next-settle r = by_header (after_header r) refl where
+  by_header : (h : Result Reading Stop) → after_header r ≡ h → next_of (settle r) ≡ next_of r
   by_header (Ok h) e = rw (settle-ok r h e, (header-again r h e).again, e) refl
   by_header (Err stop) e = rw (settle-err r stop e) refl
 
 -- the header is taken once
 pub settle-settle : (r : Reading) → settle (settle r) ≡ settle r
-settle-settle r = by_header (behind_header r) refl where
-  by_header : (h : Result Reading Stop) → behind_header r ≡ h → settle (settle r) ≡ settle r
+settle-settle r = by_header (after_header r) refl where
+  by_header : (h : Result Reading Stop) → after_header r ≡ h → settle (settle r) ≡ settle r
   by_header (Ok h) e = rw (settle-ok r h e) (settle-ok h h (header-again r h e).again)
   by_header (Err stop) e = rw (settle-err r stop e) (settle-err r stop e)
 
 -- and it changes no fault
 pub settle-fault : (r : Reading) → (settle r).fault ≡ r.fault
-settle-fault r = by_header (behind_header r) refl where
-  by_header : (h : Result Reading Stop) → behind_header r ≡ h → (settle r).fault ≡ r.fault
+settle-fault r = by_header (after_header r) refl where
+  by_header : (h : Result Reading Stop) → after_header r ≡ h → (settle r).fault ≡ r.fault
   by_header (Ok h) e = rw (settle-ok r h e) (header-again r h e).fault
   by_header (Err stop) e = rw (settle-err r stop e) refl
 
--- more bytes come to the same place
+-- more bytes come to the same offset
 settle-more : (r : Reading) (piece : List ℕ) → settle (more (settle r) piece) ≡ settle (more r piece)
-settle-more r piece = by_header (behind_header r) refl where
-  by_header : (h : Result Reading Stop) → behind_header r ≡ h → settle (more (settle r) piece) ≡ settle (more r piece)
+settle-more r piece = by_header (after_header r) refl where
+  by_header : (h : Result Reading Stop) → after_header r ≡ h → settle (more (settle r) piece) ≡ settle (more r piece)
   by_header (Ok h) e =
       rw (settle-ok r h e, settle-ok (more r piece) (more h piece) (header-more r h piece e)) (settle-ok (more h piece) (more h piece) (header-more h h piece (header-again r h e).again))
   by_header (Err stop) e = rw (settle-err r stop e) refl
 
 -- where a fault stands, it stays
-wrong-place : (r : Reading) (piece : List ℕ) (kind : LogKind) → next_of r ≡ Err (Known kind) → (settle (more r piece)).at ≡ (settle r).at
+wrong-offset : (r : Reading) (piece : List ℕ) (kind : LogKind) → next_of r ≡ Err (Known kind) → (settle (more r piece)).at ≡ (settle r).at
 unfolding next_of
-wrong-place r piece kind wrong = by_header (behind_header r) refl where
-  by_header : (h : Result Reading Stop) → behind_header r ≡ h → (settle (more r piece)).at ≡ (settle r).at
+wrong-offset r piece kind wrong = by_header (after_header r) refl where
+  by_header : (h : Result Reading Stop) → after_header r ≡ h → (settle (more r piece)).at ≡ (settle r).at
   by_header (Ok h) e = rw (settle-ok r h e, settle-ok (more r piece) (more h piece) (header-more r h piece e)) refl
   by_header (Err stop) e =
       let stops = rw e at wrong in
       let same : stop ≡ Known kind = cc in
-      let known : behind_header r ≡ Err (Known kind) = rw (← same) e in
+      let known : after_header r ≡ Err (Known kind) = rw (← same) e in
       rw (settle-err r stop e, settle-err (more r piece) (Known kind) (header-wrong r kind piece known)) refl
 
--- ---- behind the header
+-- ---- after the header
 
 -- a header that was read is not read again, by the test
 opened_by : (begun : Bool) (r : Reading) (other : Result Reading Stop) → begun ≡ true → cond begun (done r) other ≡ Ok r
@@ -74,27 +74,27 @@ opened_by true r other e = refl
 opened_by false r other e = absurd cc
 
 -- a header that was read is not read again
-pub begun-opened : (r : Reading) → r.begun ≡ true → behind_header r ≡ Ok r
-unfolding behind_header
+pub begun-opened : (r : Reading) → r.begun ≡ true → after_header r ≡ Ok r
+unfolding after_header
 begun-opened r e = opened_by r.begun r _ e
 
--- behind the header the next item is a record
-pub next-opened : (r : Reading) → behind_header r ≡ Ok r → next_of r ≡ record_next r
+-- after the header the next item is a record
+pub next-opened : (r : Reading) → after_header r ≡ Ok r → next_of r ≡ record_next r
 unfolding next_of
 next-opened r e = rw e refl
 
 -- where the header is not read no item is
-pub next-closed : (r : Reading) (stop : Stop) → behind_header r ≡ Err stop → next_of r ≡ Err stop
+pub next-closed : (r : Reading) (stop : Stop) → after_header r ≡ Err stop → next_of r ≡ Err stop
 unfolding next_of
 next-closed r stop e = rw e refl
 
--- a run from before the header is one from behind it
-pub Reads-opened : (xs : List ItemAt) (r h s : Reading) → behind_header r ≡ Ok h → Reads r xs s → Reads h xs s
+-- a run from before the header is one from after it
+pub Reads-opened : (xs : List ItemAt) (r h s : Reading) → after_header r ≡ Ok h → Reads r xs s → Reads h xs s
 Reads-opened [] r h s e reads = reads ∙ settle-ok r h e ∙ sym (settle-ok h h (header-again r h e).again)
 Reads-opened (x ∷ xs) r h s e reads = (reads.0, ap next_of (sym (settle-ok r h e)) ∙ next-settle r ∙ reads.1, reads.2)
 
 -- and the other way round
-pub Reads-closed : (xs : List ItemAt) (r h s : Reading) → behind_header r ≡ Ok h → Reads h xs s → Reads r xs s
+pub Reads-closed : (xs : List ItemAt) (r h s : Reading) → after_header r ≡ Ok h → Reads h xs s → Reads r xs s
 Reads-closed [] r h s e reads = reads ∙ settle-ok h h (header-again r h e).again ∙ sym (settle-ok r h e)
 Reads-closed (x ∷ xs) r h s e reads = (reads.0, sym (next-settle r) ∙ ap next_of (settle-ok r h e) ∙ reads.1, reads.2)
 
@@ -114,7 +114,7 @@ pub Reads-more : (xs : List ItemAt) (r s : Reading) (piece : List ℕ) → Reads
 Reads-more [] r s piece reads = sym (settle-more s piece) ∙ ap (λ (w : Reading). settle (more w piece)) reads ∙ settle-more r piece
 Reads-more (x ∷ xs) r s piece reads = (more reads.0 piece, next-more r piece (x, reads.0) reads.1, Reads-more xs reads.0 s piece reads.2)
 
--- a run ends as well behind the header
+-- a run ends as well after the header
 pub Reads-settle : (xs : List ItemAt) (r s : Reading) → Reads r xs s → Reads r xs (settle s)
 Reads-settle [] r s reads = settle-settle s ∙ reads
 Reads-settle (x ∷ xs) r s reads = (reads.0, reads.1, Reads-settle xs reads.0 s reads.2)
@@ -189,7 +189,7 @@ Stands-from bytes items r none reads = subst (λ (fault : Option LogFault). Stan
 fed-by : (bytes piece : List ℕ) (items : List ItemAt) (r : Reading) (fault : Option LogFault) → r.fault ≡ fault → StandsBy fault bytes items r → StandsBy fault (bytes ++ piece) items (cond (is_some fault) r (more r piece))
 fed-by bytes piece items r None e stands = Reads-more items (start bytes) r piece stands
 fed-by bytes piece items r (Some fault) e s =
-    let at : (settle (more s.0 piece)).at ≡ (settle s.0).at = wrong-place s.0 piece fault.kind s.2 in
+    let at : (settle (more s.0 piece)).at ≡ (settle s.0).at = wrong-offset s.0 piece fault.kind s.2 in
     (more s.0 piece, Reads-more items (start bytes) s.0 piece s.1, next-wrong s.0 piece fault.kind s.2, s.3 ∙ ap (λ (n : ℕ). record { at = n; kind = fault.kind }) (sym at))
 
 -- more bytes change no fault
@@ -202,7 +202,7 @@ pub Stands-fed : (bytes piece : List ℕ) (items : List ItemAt) (r m : Reading) 
 Stands-fed bytes piece items r m e stands =
     rw e (subst (λ (fault : Option LogFault). StandsBy fault (bytes ++ piece) items (fed r piece)) (sym (fed-fault r piece r.fault refl)) (fed-by bytes piece items r r.fault refl stands))
 
--- behind an item a reader stands for one item more
+-- after an item a reader stands for one item more
 Stands-item : (bytes : List ℕ) (items : List ItemAt) (r m : Reading) (x : ItemAt) → r.fault ≡ None → next_of r ≡ Ok (x, m) → Stands bytes items r → Stands bytes (items ++ x ∷ []) m
 Stands-item bytes items r m x none e stands =
     Stands-from bytes (items ++ x ∷ []) m (next-fault r (x, m) e ∙ none) (Reads-snoc items (start bytes) r m x (Stands-going bytes items r none stands) e)

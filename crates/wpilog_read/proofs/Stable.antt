@@ -1,4 +1,4 @@
--- What is known of a front stays known, whatever bytes come after.
+-- What is known of a prefix stays known, whatever bytes come after.
 use Rattle.std.proofs.Common.{◌≡◌, ℕ, ◌+◌, ◌-◌, ◌≤◌, ◌<◌, Bool, true, false, cond, List, ◌++◌, length, drop, Option, Result, Ok, Err, refl, ap, subst, ◌∙◌, inl, inr, append_assoc, arith, nat_eq, ltb}
 use Rattle.std.specs.List.{starts_with}
 use Rattle.std.proofs.lemmas.Bool.{ltb-false, le-ltb}
@@ -11,17 +11,17 @@ use Rattle.wpilog_read.specs.declared.fault.Stop.{Stop}
 use Rattle.wpilog_read.specs.declared.fault.Stop.TheVariants.{Wanting, Known}
 use Rattle.wpilog_read.specs.declared.item_at.ItemAt.{ItemAt}
 use Rattle.wpilog_read.specs.Reading.{◌>>=◌, not_built, record_at, item_of}
-use Rattle.wpilog_read.specs.Run.{Reading, behind_header, record_next, next_of}
+use Rattle.wpilog_read.specs.Run.{Reading, after_header, record_next, next_of}
 use Rattle.wpilog_read.proofs.Steps.{done, failed, ok_is, ok_no_err, bind_ok, bind_err, guard_ok, pass_ok}
-use Rattle.wpilog_read.proofs.Records.{record_at-takes, record_at-again, record_at-behind, record_at-stops}
+use Rattle.wpilog_read.proofs.Records.{record_at-takes, record_at-again, record_at-after, record_at-stops}
 
--- a reader that more bytes have come to, behind those that are not read yet
+-- a reader that more bytes have come to, after those that are not read yet
 abbrev pub more : Reading → List ℕ → Reading
 more r piece = record r { rest = r.rest ++ piece }
 
 -- ---- the header
 
--- a reader behind the header
+-- a reader after the header
 abbrev behind : Entries → ℕ → List ℕ → Option LogFault → Reading
 behind live at rest fault = record { begun = true; live = live; at = at; rest = rest; fault = fault }
 
@@ -36,8 +36,8 @@ record TakesHeader (live : Entries) (at : ℕ) (rest : List ℕ) (fault : Option
   is : behind live (at + 12) (drop 12 rest) fault ≡ h
 
 -- a header that is read begins the bytes
-header-takes : (live : Entries) (at : ℕ) (rest : List ℕ) (fault : Option LogFault) (h : Reading) → behind_header (before live at rest fault) ≡ Ok h → TakesHeader live at rest fault h
-unfolding behind_header
+header-takes : (live : Entries) (at : ℕ) (rest : List ℕ) (fault : Option LogFault) (h : Reading) → after_header (before live at rest fault) ≡ Ok h → TakesHeader live at rest fault h
+unfolding after_header
 header-takes live at rest fault h e =
     let found = behind live (at + 12) (drop 12 rest) fault in
     let long = guard_ok (ltb (length rest) 12) Wanting (cond (starts_with nat_eq rest header) (Ok found) (Err not_built)) h e in
@@ -46,8 +46,8 @@ header-takes live at rest fault h e =
 
 -- a header that is read is read where more bytes come, by the fields
 header-more_at : (begun : Bool) (live : Entries) (at : ℕ) (rest : List ℕ) (fault : Option LogFault) (h : Reading) (piece : List ℕ)
-    → behind_header (record { begun = begun; live = live; at = at; rest = rest; fault = fault }) ≡ Ok h → behind_header (record { begun = begun; live = live; at = at; rest = rest ++ piece; fault = fault }) ≡ Ok (more h piece)
-unfolding behind_header
+    → after_header (record { begun = begun; live = live; at = at; rest = rest; fault = fault }) ≡ Ok h → after_header (record { begun = begun; live = live; at = at; rest = rest ++ piece; fault = fault }) ≡ Ok (more h piece)
+unfolding after_header
 header-more_at true live at rest fault h piece e = ap (λ (w : Reading). done (more w piece)) (ok_is (behind live at rest fault) h e)
 header-more_at false live at rest fault h piece e =
     let t = header-takes live at rest fault h e in
@@ -57,14 +57,14 @@ header-more_at false live at rest fault h piece e =
     rw (longer, starts, drop-append-le 12 rest piece long) (ap (λ (w : Reading). done (more w piece)) t.is)
 
 -- a header that is read is read where more bytes come
-pub header-more : (r h : Reading) (piece : List ℕ) → behind_header r ≡ Ok h → behind_header (more r piece) ≡ Ok (more h piece)
+pub header-more : (r h : Reading) (piece : List ℕ) → after_header r ≡ Ok h → after_header (more r piece) ≡ Ok (more h piece)
 header-more r h piece e = header-more_at r.begun r.live r.at r.rest r.fault h piece e
 
 -- a header that is wrong stays wrong, by the fields
 header-wrong_at : (begun : Bool) (live : Entries) (at : ℕ) (rest : List ℕ) (fault : Option LogFault) (kind : LogKind) (piece : List ℕ)
-    → behind_header (record { begun = begun; live = live; at = at; rest = rest; fault = fault }) ≡ Err (Known kind)
-    → behind_header (record { begun = begun; live = live; at = at; rest = rest ++ piece; fault = fault }) ≡ Err (Known kind)
-unfolding behind_header
+    → after_header (record { begun = begun; live = live; at = at; rest = rest; fault = fault }) ≡ Err (Known kind)
+    → after_header (record { begun = begun; live = live; at = at; rest = rest ++ piece; fault = fault }) ≡ Err (Known kind)
+unfolding after_header
 header-wrong_at true live at rest fault kind piece e = absurd cc
 header-wrong_at false live at rest fault kind piece e =
     let found = behind live (at + 12) (drop 12 rest) fault in
@@ -84,34 +84,34 @@ header-wrong_at false live at rest fault kind piece e =
     differs false x e = (refl, e)
 
 -- a header that is wrong stays wrong
-pub header-wrong : (r : Reading) (kind : LogKind) (piece : List ℕ) → behind_header r ≡ Err (Known kind) → behind_header (more r piece) ≡ Err (Known kind)
+pub header-wrong : (r : Reading) (kind : LogKind) (piece : List ℕ) → after_header r ≡ Err (Known kind) → after_header (more r piece) ≡ Err (Known kind)
 header-wrong r kind piece e = header-wrong_at r.begun r.live r.at r.rest r.fault kind piece e
 
--- a reader that has the header behind it
+-- a reader that has the header after it
 pub record Opened (r h : Reading) : Type 0 where
-  pub again : behind_header h ≡ Ok h
+  pub again : after_header h ≡ Ok h
   pub begun : h.begun ≡ true
   pub live : h.live ≡ r.live
   pub fault : h.fault ≡ r.fault
   pub shorter : length h.rest ≤ length r.rest
 
--- a header that is read is behind the reader, by the fields
+-- a header that is read is after the reader, by the fields
 opened_at : (begun : Bool) (live : Entries) (at : ℕ) (rest : List ℕ) (fault : Option LogFault) (h : Reading)
-    → behind_header (record { begun = begun; live = live; at = at; rest = rest; fault = fault }) ≡ Ok h → Opened (record { begun = begun; live = live; at = at; rest = rest; fault = fault }) h
-unfolding behind_header
+    → after_header (record { begun = begun; live = live; at = at; rest = rest; fault = fault }) ≡ Ok h → Opened (record { begun = begun; live = live; at = at; rest = rest; fault = fault }) h
+unfolding after_header
 opened_at true live at rest fault h e =
     subst (λ (w : Reading). Opened (behind live at rest fault) w) (ok_is (behind live at rest fault) h e) (record { again = refl; begun = refl; live = refl; fault = refl; shorter = omega arith })
 opened_at false live at rest fault h e =
     let t = header-takes live at rest fault h e in
     subst (λ (w : Reading). Opened (before live at rest fault) w) t.is (record { again = refl; begun = refl; live = refl; fault = refl; shorter = omega (arith, length-drop 12 rest) })
 
--- a header that is read is behind the reader
-pub header-again : (r h : Reading) → behind_header r ≡ Ok h → Opened r h
+-- a header that is read is after the reader
+pub header-again : (r h : Reading) → after_header r ≡ Ok h → Opened r h
 header-again r h e = opened_at r.begun r.live r.at r.rest r.fault h e
 
 -- ---- records
 
--- where a reader stands behind a record with this item, and what it gives
+-- where a reader stands after a record with this item, and what it gives
 abbrev pub step : Reading → Fields × List ℕ → LogItem → ItemAt × Reading
 step r fields item = (record { at = r.at; item = item }, record r { live = live_after r.live item; at = r.at + (length r.rest - length fields.1); rest = fields.1 })
 
@@ -135,16 +135,16 @@ step-of r y e =
 record_at-more : (bytes piece : List ℕ) (x : Fields × List ℕ) → record_at bytes ≡ Ok x → record_at (bytes ++ piece) ≡ Ok (x.0, x.1 ++ piece)
 record_at-more bytes piece x e =
     let t = record_at-takes bytes x e in
-    let parts : bytes ++ piece ≡ t.front ++ (x.1 ++ piece) = ap (λ (w : List ℕ). w ++ piece) t.parts ∙ append_assoc t.front x.1 piece in
-    ap record_at parts ∙ record_at-again t.front (x.1 ++ piece) x.0 t.is
+    let parts : bytes ++ piece ≡ t.prefix ++ (x.1 ++ piece) = ap (λ (w : List ℕ). w ++ piece) t.parts ∙ append_assoc t.prefix x.1 piece in
+    ap record_at parts ∙ record_at-again t.prefix (x.1 ++ piece) x.0 t.is
 
 -- and so is its item
 record-more : (r : Reading) (piece : List ℕ) (y : ItemAt × Reading) → record_next r ≡ Ok y → record_next (more r piece) ≡ Ok (y.0, more y.1 piece)
 unfolding record_next
 record-more r piece y e =
     let s = step-of r y e in
-    let b = record_at-behind r.rest s.fields s.read in
-    let len : length r.rest ≡ length b.front + length s.fields.1 = ap length b.parts ∙ length-append b.front s.fields.1 in
+    let b = record_at-after r.rest s.fields s.read in
+    let len : length r.rest ≡ length b.prefix + length s.fields.1 = ap length b.parts ∙ length-append b.prefix s.fields.1 in
     let same : length (r.rest ++ piece) - length (s.fields.1 ++ piece) ≡ length r.rest - length s.fields.1 = omega (arith, length-append r.rest piece, length-append s.fields.1 piece) in
     let here : record_next (more r piece) ≡ Ok ((step r s.fields s.item).0, more (step r s.fields s.item).1 piece) = rw (record_at-more r.rest piece s.fields s.read, s.says, same) refl in
     here ∙ ap (λ (w : ItemAt × Reading). done (w.0, more w.1 piece)) s.is
@@ -160,7 +160,7 @@ record-wrong r piece kind e = elim (bind_err (record_at r.rest) (λ fields. item
   ]
 ]
 
--- a reader that has an item behind it
+-- a reader that has an item after it
 pub record Forward (r m : Reading) : Type 0 where
   pub shorter : length m.rest < length r.rest
   pub begun : m.begun ≡ r.begun
@@ -169,9 +169,9 @@ pub record Forward (r m : Reading) : Type 0 where
 pub record-forward : (r : Reading) (y : ItemAt × Reading) → record_next r ≡ Ok y → Forward r y.1
 record-forward r y e =
     let s = step-of r y e in
-    let b = record_at-behind r.rest s.fields s.read in
-    let len : length r.rest ≡ length b.front + length s.fields.1 = ap length b.parts ∙ length-append b.front s.fields.1 in
-    let some : 0 < length b.front = b.some in
+    let b = record_at-after r.rest s.fields s.read in
+    let len : length r.rest ≡ length b.prefix + length s.fields.1 = ap length b.parts ∙ length-append b.prefix s.fields.1 in
+    let some : 0 < length b.prefix = b.some in
     subst (λ (w : ItemAt × Reading). Forward r w.1) s.is (record { shorter = omega arith; begun = refl; fault = refl })
 
 -- ---- any unit
@@ -180,13 +180,13 @@ record-forward r y e =
 pub next-more : (r : Reading) (piece : List ℕ) (y : ItemAt × Reading) → next_of r ≡ Ok y → next_of (more r piece) ≡ Ok (y.0, more y.1 piece)
 unfolding next_of
 next-more r piece y e =
-    let a = bind_ok (behind_header r) record_next y e in
+    let a = bind_ok (after_header r) record_next y e in
     rw (header-more r a.0 piece a.1) (record-more a.0 piece y a.2)
 
 -- a fault that is known stays known
 pub next-wrong : (r : Reading) (piece : List ℕ) (kind : LogKind) → next_of r ≡ Err (Known kind) → next_of (more r piece) ≡ Err (Known kind)
 unfolding next_of
-next-wrong r piece kind e = elim (bind_err (behind_header r) record_next (Known kind) e) [
+next-wrong r piece kind e = elim (bind_err (after_header r) record_next (Known kind) e) [
   | inl h ↦ rw (header-wrong r kind piece h) refl
   | inr a ↦ rw (header-more r a.0 piece a.1) (record-wrong a.0 piece kind a.2)
 ]
@@ -195,5 +195,5 @@ next-wrong r piece kind e = elim (bind_err (behind_header r) record_next (Known 
 pub next-fault : (r : Reading) (y : ItemAt × Reading) → next_of r ≡ Ok y → y.1.fault ≡ r.fault
 unfolding next_of
 next-fault r y e =
-    let a = bind_ok (behind_header r) record_next y e in
+    let a = bind_ok (after_header r) record_next y e in
     (record-forward a.0 y a.2).fault ∙ (header-again r a.0 a.1).fault

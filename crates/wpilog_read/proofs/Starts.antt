@@ -15,13 +15,13 @@ use Rattle.wpilog_read.specs.Reading.{◌>>=◌, not_built, unless, bytes_at, nu
 use Rattle.wpilog_read.proofs.Texts.{text_of-text}
 use Rattle.wpilog_read.proofs.Steps.{ok_is, bind_ok, StopsAt, err-stops, ok-stops, bind-stops, cond-stops, unless-stops, pass_ok, unless_ok, parts_then, bytes_at-takes, bytes_at-again, bytes_at-stops, number_at-takes, number_at-again, number_at-stops}
 
--- ---- a text behind its length
+-- ---- a text after its length
 
--- a text that was taken from the front
+-- a text that was taken from the prefix
 pub record TakesString (bytes text rest : List ℕ) : Type 0 where
-  pub front : List ℕ
-  pub is : IsString front text
-  pub parts : bytes ≡ front ++ rest
+  pub prefix : List ℕ
+  pub is : IsString prefix text
+  pub parts : bytes ≡ prefix ++ rest
 
 -- what is read is spelled so
 string_at-takes : (bytes : List ℕ) (x : List ℕ × List ℕ) → string_at bytes ≡ Ok x → TakesString bytes x.0 x.1
@@ -31,16 +31,16 @@ string_at-takes bytes x e =
     let n = number_at-takes not_built 4 bytes a.0 a.1 in
     let t = bytes_at-takes not_built a.0.0 a.0.1 x a.2 in
     record {
-      front = n.field ++ x.0;
+      prefix = n.field ++ x.0;
       is = record { len = n.field; len_is = record { len = n.len; value = n.is ∙ sym t.len }; whole = refl };
       parts = parts_then n.field n.parts t.parts ∙ sym (append_assoc n.field x.0 x.1);
     }
 
 -- what is spelled so is read, whatever follows
-string_at-again : (front text rest : List ℕ) → IsString front text → string_at (front ++ rest) ≡ Ok (text, rest)
+string_at-again : (prefix text rest : List ℕ) → IsString prefix text → string_at (prefix ++ rest) ≡ Ok (text, rest)
 unfolding string_at
-string_at-again front text rest h =
-    let parts : front ++ rest ≡ h.len ++ (text ++ rest) = ap (λ (w : List ℕ). w ++ rest) h.whole ∙ append_assoc h.len text rest in
+string_at-again prefix text rest h =
+    let parts : prefix ++ rest ≡ h.len ++ (text ++ rest) = ap (λ (w : List ℕ). w ++ rest) h.whole ∙ append_assoc h.len text rest in
     rw (parts, number_at-again not_built 4 h.len (text ++ rest) h.len_is.len, h.len_is.value) (bytes_at-again not_built (length text) text rest refl)
 
 -- a text that is not read is a fault
@@ -66,7 +66,7 @@ ended-none rest x e = nil_from_length rest (eqb-true (length rest) 0 (not-false 
 
 -- ---- the fields
 
--- the fields of a Start behind its first byte, their texts in any bytes
+-- the fields of a Start after its first byte, their texts in any bytes
 record SpellsFields (bytes : List ℕ) (fields : StartFields) : Type 0 where
   spelled : IsUtf8 fields.name → IsUtf8 fields.typ → IsUtf8 fields.meta → IsStart (0 ∷ bytes) fields.id fields.name fields.typ fields.meta
 
@@ -99,15 +99,15 @@ start_fields-takes bytes x e =
     let name = string_at-takes a.0.1 b.0 b.1 in
     let typ = string_at-takes b.0.1 c.0 c.1 in
     let meta = string_at-takes c.0.1 d.0 d.1 in
-    let last : c.0.1 ≡ meta.front = parts_then meta.front meta.parts (ended-none d.0.1 f.0 f.1) ∙ append-nil meta.front in
-    let parts : bytes ≡ id.field ++ (name.front ++ (typ.front ++ meta.front)) =
-    parts_then id.field id.parts (parts_then name.front name.parts (parts_then typ.front typ.parts last)) in
+    let last : c.0.1 ≡ meta.prefix = parts_then meta.prefix meta.parts (ended-none d.0.1 f.0 f.1) ∙ append-nil meta.prefix in
+    let parts : bytes ≡ id.field ++ (name.prefix ++ (typ.prefix ++ meta.prefix)) =
+    parts_then id.field id.parts (parts_then name.prefix name.parts (parts_then typ.prefix typ.parts last)) in
     subst (λ (w : StartFields). SpellsFields bytes w) (ok_is (made a.0.0 b.0.0 c.0.0 d.0.0) x f.2) (record {
       spelled = λ name_text typ_text meta_text. record {
         id_at = id.field;
-        name_at = name.front;
-        typ_at = typ.front;
-        meta_at = meta.front;
+        name_at = name.prefix;
+        typ_at = typ.prefix;
+        meta_at = meta.prefix;
         id_is = record { len = id.len; value = id.is };
         name_is = name.is;
         typ_is = typ.is;

@@ -82,14 +82,14 @@ unless_ok false kind x e = refl
 
 -- ---- bytes and numbers
 
--- parts that stand one behind another
-pub parts_then : (front : List ℕ) {bytes rest others : List ℕ} → bytes ≡ front ++ rest → rest ≡ others → bytes ≡ front ++ others
-parts_then front first later = first ∙ ap (λ (w : List ℕ). front ++ w) later
+-- parts that stand one after another
+pub parts_then : (prefix : List ℕ) {bytes rest others : List ℕ} → bytes ≡ prefix ++ rest → rest ≡ others → bytes ≡ prefix ++ others
+parts_then prefix first later = first ∙ ap (λ (w : List ℕ). prefix ++ w) later
 
--- bytes that were taken from the front
-pub record Takes (n : ℕ) (bytes front rest : List ℕ) : Type 0 where
-  pub parts : bytes ≡ front ++ rest
-  pub len : length front ≡ n
+-- bytes that were taken from the prefix
+pub record Takes (n : ℕ) (bytes prefix rest : List ℕ) : Type 0 where
+  pub parts : bytes ≡ prefix ++ rest
+  pub len : length prefix ≡ n
 
 -- bytes that are read begin the bytes
 pub bytes_at-takes : (stop : Stop) (n : ℕ) (bytes : List ℕ) (x : List ℕ × List ℕ) → bytes_at stop n bytes ≡ Ok x → Takes n bytes x.0 x.1
@@ -98,17 +98,17 @@ bytes_at-takes stop n bytes x e =
     let long : n ≤ length bytes = ltb-false _ _ g.0 in
     subst (λ (w : List ℕ × List ℕ). Takes n bytes w.0 w.1) (ok_is (take n bytes, drop n bytes) x g.1) (record { parts = sym (take-append-drop n bytes); len = omega (arith, length-take n bytes) })
 
--- bytes that stand in front are taken again, whatever follows
-pub bytes_at-again : (stop : Stop) (n : ℕ) (front rest : List ℕ) → length front ≡ n → bytes_at stop n (front ++ rest) ≡ Ok (front, rest)
-bytes_at-again stop n front rest len =
-    let long : ltb (length (front ++ rest)) n ≡ false = le-ltb _ _ (omega (arith, length-append front rest)) in
-    rw (long, take_at front rest n len, drop_at front rest n len) refl
+-- bytes that stand in prefix are taken again, whatever follows
+pub bytes_at-again : (stop : Stop) (n : ℕ) (prefix rest : List ℕ) → length prefix ≡ n → bytes_at stop n (prefix ++ rest) ≡ Ok (prefix, rest)
+bytes_at-again stop n prefix rest len =
+    let long : ltb (length (prefix ++ rest)) n ≡ false = le-ltb _ _ (omega (arith, length-append prefix rest)) in
+    rw (long, take_at prefix rest n len, drop_at prefix rest n len) refl
 
 -- only missing bytes stop it
 pub bytes_at-stops : (stop : Stop) (n : ℕ) (bytes : List ℕ) → StopsAt stop (bytes_at stop n bytes)
 bytes_at-stops stop n bytes = cond-stops stop (ltb (length bytes) n) (Err stop) (Ok (take n bytes, drop n bytes)) (err-stops stop) (ok-stops stop _)
 
--- a number that was taken from the front
+-- a number that was taken from the prefix
 pub record TakesNumber (n : ℕ) (bytes : List ℕ) (value : ℕ) (rest : List ℕ) : Type 0 where
   pub field : List ℕ
   pub parts : bytes ≡ field ++ rest
@@ -123,7 +123,7 @@ number_at-takes stop n bytes x e =
     let t = bytes_at-takes stop n bytes b.0 b.1 in
     subst (λ (w : ℕ × List ℕ). TakesNumber n bytes w.0 w.1) (ok_is (number b.0.0, b.0.1) x b.2) (record { field = b.0.0; parts = t.parts; len = t.len; is = refl })
 
--- a number that stands in front is taken again, whatever follows
+-- a number that stands in prefix is taken again, whatever follows
 pub number_at-again : (stop : Stop) (n : ℕ) (field rest : List ℕ) → length field ≡ n → number_at stop n (field ++ rest) ≡ Ok (number field, rest)
 unfolding number_at
 number_at-again stop n field rest len = rw (bytes_at-again stop n field rest len) refl

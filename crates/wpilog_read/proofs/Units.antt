@@ -1,4 +1,4 @@
--- One step of reading against the grammar: behind the header an item is read exactly where a plain unit comes next.
+-- One step of reading against the grammar: after the header an item is read exactly where a plain unit comes next.
 use Rattle.std.proofs.Common.{◌≡◌, ◌≢◌, ℕ, ◌+◌, ◌-◌, true, false, ◌⊎◌, inl, inr, List, [], ◌∷◌, ◌++◌, length, Option, None, Some, Result, Ok, Err, refl, sym, ap, subst, ◌∙◌, arith, eqb}
 use Rattle.std.proofs.lemmas.Bool.{ne_eqb}
 use Rattle.std.proofs.lemmas.List.{length-append}
@@ -12,26 +12,26 @@ use Rattle.wpilog_read.specs.declared.fault.Stop.{Stop}
 use Rattle.wpilog_read.specs.declared.fault.Stop.TheVariants.{Wanting, Known}
 use Rattle.wpilog_read.specs.Meaning.{IsUnit, IsRecordKind}
 use Rattle.wpilog_read.specs.Reading.{◌>>=◌, not_built, record_at, item_of}
-use Rattle.wpilog_read.specs.Run.{Reading, record_next, next_of, at_place, ending, Ends}
+use Rattle.wpilog_read.specs.Run.{Reading, record_next, next_of, at_offset, ending, Ends}
 use Rattle.wpilog_read.proofs.Steps.{ok_no_err, bind_err}
 use Rattle.wpilog_read.proofs.Records.{record_at-takes, record_at-again, record_at-stops, record-some}
 use Rattle.wpilog_read.proofs.Says.{item_of-takes, item_of-again, item_of-stops}
 use Rattle.wpilog_read.proofs.Stable.{step, step-of}
 use Rattle.wpilog_read.proofs.Runs.{begun-opened, next-opened}
 
--- behind the header a unit is a record
+-- after the header a unit is a record
 pub next-record : (r : Reading) → r.begun ≡ true → next_of r ≡ record_next r
 next-record r begun = next-opened r (begun-opened r begun)
 
 -- ---- items
 
--- a plain unit was taken from the front
+-- a plain unit was taken from the prefix
 pub record TakesUnit (r : Reading) (x : ItemAt) (m : Reading) : Type 0 where
   pub unit : List ℕ
   pub parts : r.rest ≡ unit ++ m.rest
   pub is : IsItem r.live unit x.item
   pub at : x.at ≡ r.at
-  pub place : m.at ≡ r.at + length unit
+  pub offset : m.at ≡ r.at + length unit
   pub live : m.live ≡ live_after r.live x.item
 
 -- an item that is read is a plain unit
@@ -40,14 +40,14 @@ next-takes r m x begun e =
     let s = step-of r (x, m) (sym (next-record r begun) ∙ e) in
     let t = record_at-takes r.rest s.fields s.read in
     let i = item_of-takes r.live s.fields.0 s.item s.says in
-    let len : length r.rest ≡ length t.front + length s.fields.1 = ap length t.parts ∙ length-append t.front s.fields.1 in
-    let far : length r.rest - length s.fields.1 ≡ length t.front = omega arith in
+    let len : length r.rest ≡ length t.prefix + length s.fields.1 = ap length t.parts ∙ length-append t.prefix s.fields.1 in
+    let far : length r.rest - length s.fields.1 ≡ length t.prefix = omega arith in
     subst (λ (w : ItemAt × Reading). TakesUnit r w.0 w.1) s.is (record {
-      unit = t.front;
+      unit = t.prefix;
       parts = t.parts;
       is = record { fields = s.fields.0; is_record = t.is; spare_is = i.0; says = i.1.says; may_come = i.1.may_come; plain = i.1.plain };
       at = refl;
-      place = ap (λ (n : ℕ). r.at + n) far;
+      offset = ap (λ (n : ℕ). r.at + n) far;
       live = refl;
     })
 
@@ -97,7 +97,7 @@ pub no_unit-wanting : (r : Reading) → r.begun ≡ true → NoUnit r.rest → n
 unfolding record_next
 no_unit-wanting r begun none = by_record (record_at r.rest) refl where
   by_record : (found : Result (Fields × List ℕ) Stop) → record_at r.rest ≡ found → next_of r ≡ Err Wanting
-  by_record (Ok x) e = let t = record_at-takes r.rest x e in absurd (none t.front x.1 t.parts (x.0, t.is))
+  by_record (Ok x) e = let t = record_at-takes r.rest x e in absurd (none t.prefix x.1 t.parts (x.0, t.is))
   by_record (Err stop) e = next-record r begun ∙ rw (e, record_at-stops r.rest stop e) refl
 
 -- ---- a whole unit that isn't plain
@@ -109,7 +109,7 @@ known-not_plain r kind begun e = elim (refused r (Known kind) begun e) [
   | inr h ↦ let t = record_at-takes r.rest h.fields h.read in
       let same : Known kind ≡ not_built = item_of-stops r.live h.fields.0 (Known kind) h.says in
       let kind_is : kind ≡ NotBuilt = cc in
-      (kind_is, (t.front, h.fields.1, t.parts, (h.fields.0, t.is), λ plain. ok_no_err _ (Known kind) (sym (next-again r t.front h.fields.1 plain.0 begun t.parts plain.1) ∙ e)))
+      (kind_is, (t.prefix, h.fields.1, t.parts, (h.fields.0, t.is), λ plain. ok_no_err _ (Known kind) (sym (next-again r t.prefix h.fields.1 plain.0 begun t.parts plain.1) ∙ e)))
 ]
 
 -- where a whole unit isn't plain a fault is known
@@ -160,7 +160,7 @@ ending-left fault r begun wanting e = by_rest r.rest refl where
   by_rest [] is = let ended : ending r ≡ None = rw (begun, is) refl in subst (λ (f : Option LogFault). LeftBy f r) (sym (e ∙ ended)) is
   by_rest (first ∷ others) is =
       let left : r.rest ≢ [] = λ none. let no : first ∷ others ≡ [] = sym is ∙ none in cc in
-      let ended : ending r ≡ Some (at_place r Truncated) = rw (begun, some-left r.rest left) refl in
+      let ended : ending r ≡ Some (at_offset r Truncated) = rw (begun, some-left r.rest left) refl in
       subst (λ (f : Option LogFault). LeftBy f r) (sym (e ∙ ended)) (refl, (left, wanting-no_unit r begun wanting))
 
 -- the fault where no item follows is that of what is left
@@ -174,7 +174,7 @@ ends-left fault r begun ends = by_next (next_of r) refl ends where
       subst (λ (f : Option LogFault). LeftBy f r) (sym ends) (refl, subst (λ (w : LogKind). IsRecordKind w r.live r.rest) (sym k.0) k.1)
 
 -- a unit at fault ends reading with its fault
-kind-ends : (kind : LogKind) (r : Reading) → r.begun ≡ true → IsRecordKind kind r.live r.rest → Ends (next_of r) r (Some (at_place r kind))
+kind-ends : (kind : LogKind) (r : Reading) → r.begun ≡ true → IsRecordKind kind r.live r.rest → Ends (next_of r) r (Some (at_offset r kind))
 kind-ends Truncated r begun left = rw (no_unit-wanting r begun left.1) (rw (begun, some-left r.rest left.0) refl)
 kind-ends NotBuilt r begun left = rw (not_plain-known r begun left) refl
 
@@ -182,5 +182,5 @@ kind-ends NotBuilt r begun left = rw (not_plain-known r begun left) refl
 pub left-ends : (fault : Option LogFault) (r : Reading) → r.begun ≡ true → LeftBy fault r → Ends (next_of r) r fault
 left-ends None r begun none = rw (no_unit-wanting r begun (nothing-no_unit r.rest none)) (rw (begun, none) refl)
 left-ends (Some fault) r begun left =
-    let same : fault ≡ at_place r fault.kind = ap (λ (at : ℕ). record { at = at; kind = fault.kind }) left.0 in
+    let same : fault ≡ at_offset r fault.kind = ap (λ (at : ℕ). record { at = at; kind = fault.kind }) left.0 in
     subst (λ (f : LogFault). Ends (next_of r) r (Some f)) (sym same) (kind-ends fault.kind r begun left.1)

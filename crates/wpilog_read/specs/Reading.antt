@@ -38,7 +38,7 @@ Gives view (Err e) read = Fails e read
 abbrev pub unless : Bool → LogKind → Result (Unit {0}) Stop
 unless test kind = if test then Err (Known kind) else Ok tt
 
--- n bytes and those behind them; `stop` says what a missing byte means
+-- n bytes and those after them; `stop` says what a missing byte means
 abbrev pub bytes_at : Stop → ℕ → List ℕ → Result (List ℕ × List ℕ) Stop
 bytes_at stop n bytes = if nat_lt (length bytes) n then Err stop else Ok (take n bytes, drop n bytes)
 
@@ -47,7 +47,7 @@ number_at stop n bytes = do
   field ← bytes_at stop n bytes
   Ok (number field.0, field.1)
 
--- ---- a record by its fields, and the bytes behind it
+-- ---- a record by its fields, and the bytes after it
 
 unfoldable pub record_at : List ℕ → Result (Fields × List ℕ) Stop
 record_at [] = Err Wanting
@@ -64,7 +64,7 @@ record_at (first ∷ bytes) = do
 abbrev pub not_built : Stop
 not_built = Known NotBuilt
 
--- a text behind its length
+-- a text after its length
 unfoldable pub string_at : List ℕ → Result (List ℕ × List ℕ) Stop
 string_at bytes = do
   len ← number_at not_built 4 bytes
@@ -73,7 +73,7 @@ string_at bytes = do
 unfoldable pub text_of : List ℕ → Result (List ℕ) Stop
 text_of bytes = if is_utf8 bytes then Ok bytes else Err not_built
 
--- the fields of a Start, behind its first byte
+-- the fields of a Start, after its first byte
 pub record StartFields : Type 0 where
   pub id : ℕ
   pub name : List ℕ

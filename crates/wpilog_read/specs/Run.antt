@@ -12,7 +12,7 @@ use Rattle.wpilog_read.specs.declared.fault.Stop.TheVariants.{Wanting, Known}
 use Rattle.wpilog_read.specs.declared.item_at.ItemAt.{ItemAt}
 use Rattle.wpilog_read.specs.Reading.{◌>>=◌, not_built, record_at, item_of}
 
--- where a reader stands: whether the header was read, which entries are live, the place of the bytes that are
+-- where a reader stands: whether the header was read, which entries are live, the offset of the bytes that are
 -- not read yet, these bytes, and the fault
 pub record Reading : Type 0 where
   pub begun : Bool
@@ -30,24 +30,24 @@ fed r piece = if is_some r.fault then r else record r { rest = r.rest ++ piece }
 
 -- ---- steps
 
--- behind the header
-unfoldable pub behind_header : Reading → Result Reading Stop
-behind_header r =
+-- after the header
+unfoldable pub after_header : Reading → Result Reading Stop
+after_header r =
     if r.begun then Ok r
     else if nat_lt (length r.rest) 12 then Err Wanting
     else if starts_with nat_eq r.rest header then Ok (record r { begun = true; at = r.at + 12; rest = drop 12 r.rest })
     else Err not_built
 
--- a record's item, and where the reader stands behind it
+-- a record's item, and where the reader stands after it
 unfoldable pub record_next : Reading → Result (ItemAt × Reading) Stop
 record_next r = do
   fields ← record_at r.rest
   item ← item_of r.live fields.0
   Ok (record { at = r.at; item = item }, record r { live = live_after r.live item; at = r.at + (length r.rest - length fields.1); rest = fields.1 })
 
--- the next item, and where the reader stands behind it
+-- the next item, and where the reader stands after it
 unfoldable pub next_of : Reading → Result (ItemAt × Reading) Stop
-next_of r = behind_header r >>= record_next
+next_of r = after_header r >>= record_next
 
 -- where the reader stands with the header read, if it is whole
 abbrev pub settled : Result Reading Stop → Reading → Reading
@@ -55,11 +55,11 @@ settled (Ok s) r = s
 settled (Err stop) r = r
 
 unfoldable pub settle : Reading → Reading
-settle r = settled (behind_header r) r
+settle r = settled (after_header r) r
 
 -- a fault where the reader stands
-abbrev pub at_place : Reading → LogKind → LogFault
-at_place r kind = record { at = r.at; kind = kind }
+abbrev pub at_offset : Reading → LogKind → LogFault
+at_offset r kind = record { at = r.at; kind = kind }
 
 abbrev pub broken : LogFault → Reading → Reading
 broken fault r = record r { fault = Some fault }
@@ -71,7 +71,7 @@ EndsBy Memory next old new = new ≡ settle old
 
 -- what is wanting where a log ends here
 abbrev pub ending : Reading → Option LogFault
-ending r = if r.begun && length r.rest == 0 then None else Some (at_place r Truncated)
+ending r = if r.begun && length r.rest == 0 then None else Some (at_offset r Truncated)
 
 -- ---- runs
 
@@ -85,7 +85,7 @@ Reads r (x ∷ xs) s = (m : Reading) × (next_of r ≡ Ok (x, m)) × Reads m xs 
 abbrev pub Ends : Result (ItemAt × Reading) Stop → Reading → Option LogFault → Type 0
 Ends (Ok x) s fault = ⊥
 Ends (Err Wanting) s fault = fault ≡ ending s
-Ends (Err (Known kind)) s fault = fault ≡ Some (at_place s kind)
+Ends (Err (Known kind)) s fault = fault ≡ Some (at_offset s kind)
 
 -- the bytes read as these items, and then this fault or none
 abbrev pub IsReading : List ℕ → List ItemAt → Option LogFault → Type 0
@@ -96,7 +96,7 @@ IsReading bytes items fault = (s : Reading) × Reads (start bytes) items s × En
 -- a reader that was fed these bytes and gave these items stands so, by its fault
 abbrev pub StandsBy : Option LogFault → List ℕ → List ItemAt → Reading → Type 0
 StandsBy None bytes items r = Reads (start bytes) items r
-StandsBy (Some fault) bytes items r = (s : Reading) × Reads (start bytes) items s × (next_of s ≡ Err (Known fault.kind)) × (fault ≡ at_place (settle s) fault.kind)
+StandsBy (Some fault) bytes items r = (s : Reading) × Reads (start bytes) items s × (next_of s ≡ Err (Known fault.kind)) × (fault ≡ at_offset (settle s) fault.kind)
 
 abbrev pub Stands : List ℕ → List ItemAt → Reading → Type 0
 Stands bytes items r = StandsBy r.fault bytes items r

@@ -30,7 +30,7 @@ impl fmt::Display for LogKind {
     }
 }
 
-/// A fault, and its place in the log: how many bytes stand before it.
+/// A fault, and its offset in the log: how many bytes stand before it.
 #[derive(Clone, Copy, Debug, PartialEq, Eq, Error)]
 #[error("{kind} at {at}")]
 pub struct LogFault {
@@ -50,7 +50,7 @@ pub enum NextFault {
 }
 
 /// Where no unit can be read from the bytes that have come.
-#[derive(Clone, Copy, Debug, PartialEq, Eq)]
+#[derive(Clone, Copy)]
 pub enum Stop {
     /// The unit is not whole, and no fault is known.
     Wanting,
@@ -59,7 +59,7 @@ pub enum Stop {
 }
 
 /// Why a step of reading gave no value.
-#[derive(Clone, Copy, Debug, PartialEq, Eq)]
+#[derive(Clone, Copy)]
 pub enum ReadError {
     /// Want of memory.
     Memory,

@@ -1,4 +1,4 @@
-//! Fields of a record, read from the front of bytes.
+//! Fields of a record, read from the beginning of bytes.
 
 ghost use Rattle.std.specs.Prelude.{◌≡◌, ◌<◌, ◌≤◌, ◌^◌, length};
 ghost use Rattle.wpilog_write.specs.Log.{number, Fields};
@@ -64,7 +64,7 @@ pub fn number_of(bytes: &[u8]) -> u64
     }
 }
 
-/// So many bytes, and those behind them. `stop` says what a missing byte means.
+/// So many bytes, and those after them. `stop` says what a missing byte means.
 #[inline]
 fn bytes_of(stop: Stop, len: usize, bytes: &[u8]) -> Result<(&[u8], &[u8]), ReadError>
     ensures { Gives (λ x. (x.0.now, x.1.now)) result (bytes_at stop len bytes.now) }
@@ -75,7 +75,7 @@ fn bytes_of(stop: Stop, len: usize, bytes: &[u8]) -> Result<(&[u8], &[u8]), Read
     Ok(bytes.split_at(len))
 }
 
-/// A number of at most 8 bytes, and the bytes behind it.
+/// A number of at most 8 bytes, and the bytes after it.
 #[inline]
 #[tactic(auto, unfolding(crate::specs::Reading::number_at))]
 fn u64_of(stop: Stop, len: usize, bytes: &[u8]) -> Result<(u64, &[u8]), ReadError>
@@ -86,7 +86,7 @@ fn u64_of(stop: Stop, len: usize, bytes: &[u8]) -> Result<(u64, &[u8]), ReadErro
     Ok((number_of(field), rest))
 }
 
-/// A number of at most 4 bytes, and the bytes behind it.
+/// A number of at most 4 bytes, and the bytes after it.
 #[inline]
 #[tactic(auto, unfolding(crate::specs::Reading::number_at))]
 pub fn u32_of(stop: Stop, len: usize, bytes: &[u8]) -> Result<(u32, &[u8]), ReadError>
@@ -97,7 +97,7 @@ pub fn u32_of(stop: Stop, len: usize, bytes: &[u8]) -> Result<(u32, &[u8]), Read
     Ok((short_number_of(field) as u32, rest))
 }
 
-/// A record, and the bytes behind it ("Records").
+/// A record, and the bytes after it ("Records").
 #[tactic(auto, unfolding(crate::specs::Reading::record_at))]
 pub fn record_of(bytes: &[u8]) -> Result<(Record<'_>, &[u8]), ReadError>
     ensures { Gives
@@ -121,7 +121,7 @@ pub fn record_of(bytes: &[u8]) -> Result<(Record<'_>, &[u8]), ReadError>
     Ok((record, rest))
 }
 
-/// The bytes of a text behind its length, and the bytes behind them ("Design").
+/// The bytes of a text after its length, and the bytes after them ("Design").
 #[tactic(auto, unfolding(crate::specs::Reading::string_at))]
 pub fn string_of(bytes: &[u8]) -> Result<(&[u8], &[u8]), ReadError>
     ensures { Gives (λ x. (x.0.now, x.1.now)) result (string_at bytes.now) }

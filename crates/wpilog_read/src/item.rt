@@ -13,7 +13,7 @@ use wpilog_write::{LogItem, LogType, LogValue};
 /// The live entries, with their types.
 pub type Entries = BTreeMap<u32, LogType>;
 
-/// The fields of a Start record, behind its first byte ("Start").
+/// The fields of a Start record, after its first byte ("Start").
 #[derive(Clone, Copy)]
 struct StartRecord<'a> {
     id: u32,

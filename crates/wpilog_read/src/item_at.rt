@@ -1,9 +1,9 @@
-//! Items with their places.
+//! Items with their offsets.
 
 use wpilog_write::LogItem;
 
-/// An item, and the place of its record's first byte.
-#[derive(Debug, Drop)]
+/// An item, and the offset of its record's first byte.
+#[derive(Drop)]
 pub struct ItemAt {
     pub at: u64,
     pub item: LogItem,

@@ -13,7 +13,7 @@ ghost use Rattle.wpilog_read.specs.Meaning.{IsLog, IsUnit, IsHeaderKind, IsRecor
 ghost use Rattle.wpilog_read.specs.Run.{Reading, start, next_of, Reads, IsReading, Stands};
 
 /// One step of reading, by the grammar. Before the header nothing is read where fewer bytes than
-/// the header's are left, and a fault where others are there. Behind it an item is read exactly
+/// the header's are left, and a fault where others are there. After it an item is read exactly
 /// where a plain unit begins what is left, nothing exactly where no whole unit does, and a fault
 /// exactly where a whole unit does that isn't plain.
 pub fn step_is_unit()
@@ -48,7 +48,7 @@ pub fn step_is_unit()
 {}
 
 /// What is read is what the bytes mean, and each byte string means exactly one thing. What a reader
-/// gave so far begins the items that the bytes mean. A fault stands at the end of the longest front
+/// gave so far begins the items that the bytes mean. A fault stands at the end of the longest prefix
 /// that is a whole log, and what was read so far is one.
 pub fn reading_is_meaning()
     ensures means { (bytes : List ℕ) (items : List ItemAt) (fault : Option LogFault)
@@ -62,12 +62,12 @@ pub fn reading_is_meaning()
         → Stands bytes items r → Means bytes others fault → (more : List ItemAt) × (others ≡ items ++ more) }
     ensures longest { (bytes : List ℕ) (items others : List ItemAt) (fault : LogFault) (n : ℕ) (live : Entries)
         → Means bytes items (Some fault) → n ≤ length bytes → IsLog (take n bytes) others live → n ≤ fault.at }
-    ensures front { (bytes : List ℕ) (items : List ItemAt) (r : Reading) → r.begun ≡ true
+    ensures prefix { (bytes : List ℕ) (items : List ItemAt) (r : Reading) → r.begun ≡ true
         → Reads (start bytes) items r → (bytes ≡ take r.at bytes ++ r.rest) × IsLog (take r.at bytes) items r.live }
 {}
 
-/// An entry is live from its Start to its Finish: behind a Start its id has the type that its type
-/// string names, and behind a Finish none. Each other id is as it was.
+/// An entry is live from its Start to its Finish: after a Start its id has the type that its type
+/// string names, and after a Finish none. Each other id is as it was.
 pub fn entries_are_live()
     ensures start { (live : Entries) (time id other : ℕ) (name typ meta : List ℕ)
         → type_of (live_after live (Start time id name typ meta)) other

@@ -8,7 +8,7 @@ ghost use Rattle.wpilog_read.specs.declared.fault.LogKind.{LogKind};
 ghost use Rattle.wpilog_read.specs.declared.fault.Stop.TheVariants.{Wanting, Known};
 ghost use Rattle.wpilog_read.specs.Meaning.{Means};
 ghost use Rattle.wpilog_read.specs.Reading.{Fails};
-ghost use Rattle.wpilog_read.specs.Run.{start, fed, behind_header, record_next, next_of, settle, broken, at_place, EndsBy, ending, given, IsEnded, Stands, IsReading};
+ghost use Rattle.wpilog_read.specs.Run.{start, fed, after_header, record_next, next_of, settle, broken, at_offset, EndsBy, ending, given, IsEnded, Stands, IsReading};
 
 use crate::fault::{LogFault, LogKind, NextFault, ReadError, Stop};
 use crate::field::{NOT_BUILT, record_of};
@@ -23,7 +23,7 @@ use wpilog_write::{LogItem, LogType};
 const HEADER: [u8; 12] = [87, 80, 73, 76, 79, 71, 0, 1, 0, 0, 0, 0];
 
 /// A reader of a log that comes in pieces. It keeps all bytes that it is fed.
-#[derive(Debug, Drop)]
+#[derive(Drop)]
 pub struct LogReader {
     bytes: Vec<u8>,
     taken: usize,
@@ -58,7 +58,7 @@ impl LogReader {
         }
     }
 
-    /// Takes the next bytes of the log. Behind a fault they are let go.
+    /// Takes the next bytes of the log. After a fault they are let go.
     ///
     /// # Errors
     ///
@@ -149,11 +149,11 @@ impl LogReader {
 
     /// Reads the header, where it is not read yet.
     #[inline]
-    #[tactic(auto, unfolding(crate::specs::Run::behind_header))]
+    #[tactic(auto, unfolding(crate::specs::Run::after_header))]
     fn open(&mut self) -> Result<(), Stop>
-        ensures ok { OnOk result (behind_header self.old ≡ Ok self.new) }
+        ensures ok { OnOk result (after_header self.old ≡ Ok self.new) }
         ensures err { IfErr result
-            (λ stop. (behind_header self.old ≡ Err stop) × (self.new ≡ self.old)) }
+            (λ stop. (after_header self.old ≡ Err stop) × (self.new ≡ self.old)) }
         ensures end { self.new.at + length self.new.rest ≡ self.old.at + length self.old.rest }
         ensures forward { self.old.at ≤ self.new.at }
     {
@@ -195,8 +195,8 @@ impl LogReader {
     fn stop(&mut self, stop: Stop) -> Result<Option<ItemAt>, NextFault>
         ensures wanting { stop ≡ Wanting → (result ≡ Ok None) × (self.new ≡ self.old) }
         ensures known { (kind : LogKind) → stop ≡ Known kind
-            → (result ≡ Err (NextFault.Log (at_place self.old kind)))
-            × (self.new ≡ broken (at_place self.old kind) self.old) }
+            → (result ≡ Err (NextFault.Log (at_offset self.old kind)))
+            × (self.new ≡ broken (at_offset self.old kind) self.old) }
     {
         match stop {
             Stop::Wanting => Ok(None),
@@ -251,7 +251,7 @@ impl LogReader {
     }
 }
 
-/// The entries that are live behind an item.
+/// The entries that are live after an item.
 #[inline]
 fn update(live: &mut Entries, item: &LogItem) -> Result<(), AllocError>
     ensures ok { OnOk result (live.new.entries ≡ live_after live.old.entries item.now) }

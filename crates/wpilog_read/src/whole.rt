@@ -60,7 +60,7 @@ pub fn take_items(
 }
 
 /// What a log in pieces was read as.
-#[derive(Debug, Drop)]
+#[derive(Drop)]
 pub struct LogRead {
     /// All items before the end or the fault, in their order.
     pub items: Vec<ItemAt>,

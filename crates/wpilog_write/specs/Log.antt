@@ -26,7 +26,7 @@ pub record IsU32 (field : List ℕ) (n : ℕ) : Type 0 where
   pub len : length field ≡ 4
   pub value : number field ≡ n
 
--- a text behind its length
+-- a text after its length
 pub record IsString (bytes text : List ℕ) : Type 0 where
   pub len : List ℕ
   pub len_is : IsU32 len (length text)
@@ -112,7 +112,7 @@ type_of live id = lookup (is_at (nat_cmp id)) live
 abbrev pub is_live : Entries → ℕ → Bool
 is_live live id = is_some (type_of live id)
 
--- the live entries behind an item
+-- the live entries after an item
 abbrev pub live_after : Entries → LogItem → Entries
 live_after live (Start time id name typ meta) = insert_entry nat_cmp live id (type_named typ)
 live_after live (Value time id value) = live

@@ -15,14 +15,14 @@ pub enum LogType {
 }
 
 /// A value of an entry ("Data Types").
-#[derive(Debug, Drop)]
+#[derive(Drop)]
 pub enum LogValue {
     /// `int64`.
     Int64(i64),
 }
 
 /// What one record says ("Records"). Times are in microseconds, ids are those of entries.
-#[derive(Debug, Drop)]
+#[derive(Drop)]
 pub enum LogItem {
     /// An entry begins ("Start"): its name, the type string of its values, and metadata.
     Start {

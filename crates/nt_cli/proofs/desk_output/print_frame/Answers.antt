@@ -1,7 +1,7 @@
 use Rattle.std.proofs.lemmas.Result.{err_from_is_err_and}
-use Rattle.nt_cli.proofs.Printing.{front-none}
+use Rattle.nt_cli.proofs.Printing.{prefix-none}
 use Rattle.nt_cli.proofs.desk_output.print_frame.Goals as goal
 
 pub returns-in_err-line-clause-prints : goal.returns-in_err-line-clause-prints
 returns-in_err-line-clause-prints g c =
-    let p = err_from_is_err_and c.from_residual.result c.from_residual.ensures.1 in rw (p.1, p.2) (front-none _ _)
+    let p = err_from_is_err_and c.from_residual.result c.from_residual.ensures.1 in rw (p.1, p.2) (prefix-none _ _)

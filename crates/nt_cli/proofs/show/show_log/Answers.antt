@@ -1,33 +1,21 @@
-use Rattle.std.proofs.Common.{string_bytes, refl}
-use Rattle.nt_cli.specs.Tool.{lines_reply}
-use Rattle.nt_cli.proofs.Shows.{some-show, one-show, becomes-last, becomes-memory, becomes-failed, front-stopped, cut-stopped}
+use Rattle.std.proofs.Common.{string_bytes, Err, ap}
+use Rattle.std.proofs.lemmas.Result.{err_from_is_err_and}
+use Rattle.nt_cli.specs.declared.status.ToolFault.{ToolFault}
+use Rattle.nt_cli.specs.declared.words.LogTool.TheVariants.{Show}
+use Rattle.nt_cli.proofs.Replies.{gives-log}
+use Rattle.nt_cli.proofs.Shows.{gives-last, gives-stopped}
 use Rattle.nt_cli.proofs.show.show_log.Goals as goal
 
-pub returns-in-Ok-clause-some : goal.returns-in-Ok-clause-some
-returns-in-Ok-clause-some g c = some-show c.reading_is_meaning.ensures.some c.args.bytes.now c.requires
+pub returns-in_err-last-clause-gives : goal.returns-in_err-last-clause-gives
+returns-in_err-last-clause-gives g c =
+    let p = err_from_is_err_and c.from_residual.result c.from_residual.ensures.1 in
+    let e = c.in_err-last.ensures in
+    rw (p.1, p.2)
+    (gives-stopped c.reading_is_meaning.ensures.some c.args.bytes.now _ _ c.in_err-last.field-0.0 c.requires
+    (λ is. e.memory (ap (λ (f : ToolFault). Err f) is)) (λ is. e.no_read (ap (λ (f : ToolFault). Err f) is)) (λ is. e.write (ap (λ (f : ToolFault). Err f) is)))
 
-pub returns-in-Ok-clause-becomes : goal.returns-in-Ok-clause-becomes
-returns-in-Ok-clause-becomes g c = λ reply replies.
-    let p = c.in-Ok.ensures.printed in
-    let reply_is = one-show c.reading_is_meaning.ensures.one c.args.bytes.now p.0 c.in-Ok.last.fault reply p.1 replies in
-    rw reply_is
-    (becomes-last c.in-Ok.last.fault p.0 (string_bytes c.in-Ok.last.lines) c.tell_made.result (g.O.Sink.taken c.args.out.now) (g.O.Sink.taken c.print_items.new.out) (g.O.Sink.taken c.tell_made.new.out) p.2
-    (c.tell_made.ensures.becomes (lines_reply c.in-Ok.last.fault (string_bytes c.in-Ok.last.lines)) c.of_lines.ensures.text))
-
-pub returns-in-Err-Memory-clause-some : goal.returns-in-Err-Memory-clause-some
-returns-in-Err-Memory-clause-some g c = some-show c.reading_is_meaning.ensures.some c.args.bytes.now c.requires
-
-pub returns-in-Err-Memory-clause-becomes : goal.returns-in-Err-Memory-clause-becomes
-returns-in-Err-Memory-clause-becomes g c = λ reply replies.
-    let e = rw c.in-Err-Memory.field-0-is at c.in-Err-Memory.ensures in
-    let stopped = e.memory refl in
-    becomes-memory reply (g.O.Sink.taken c.args.out.now) (g.O.Sink.taken c.print_items.new.out) (front-stopped c.args.bytes.now stopped.0 (g.O.Sink.taken c.args.out.now) (g.O.Sink.taken c.print_items.new.out) reply stopped.1 replies)
-
-pub returns-in-Err-Failed-clause-some : goal.returns-in-Err-Failed-clause-some
-returns-in-Err-Failed-clause-some g c = some-show c.reading_is_meaning.ensures.some c.args.bytes.now c.requires
-
-pub returns-in-Err-Failed-clause-becomes : goal.returns-in-Err-Failed-clause-becomes
-returns-in-Err-Failed-clause-becomes g c = λ reply replies.
-    let e = rw c.in-Err-Failed.field-0-is at c.in-Err-Failed.ensures in
-    let stopped = e.failed refl in
-    becomes-failed reply (g.O.Sink.taken c.args.out.now) (g.O.Sink.taken c.print_items.new.out) (cut-stopped c.args.bytes.now stopped.0 (g.O.Sink.taken c.args.out.now) (g.O.Sink.taken c.print_items.new.out) reply stopped.1 stopped.2 replies)
+pub returns-clause-gives : goal.returns-clause-gives
+returns-clause-gives g c =
+    let p = c.in_ok-last.ensures.printed in
+    gives-log c.reading_is_meaning.ensures.one Show c.args.bytes.now p.0 c.in_ok-last.last.fault _ _ _ c.requires p.1
+    (gives-last c.in_ok-last.last.fault p.0 (string_bytes c.in_ok-last.last.lines) _ _ _ c.end_log.result p.2 c.end_log.ensures.gives)

@@ -6,7 +6,8 @@ use Rattle.nt_control.proofs.Members.{get_member-remove_entry}
 use Rattle.nt_control.proofs.params.take.Goals as goal
 
 pub returns-clause-value : goal.returns-clause-value
-returns-clause-value c = ap (option_map view) c.remove.ensures.value ∙ view-lookup c.args.key.now c.args.members.now.entries
+returns-clause-value c = ap (option_map view) c.remove.ensures.value
+    ∙ view-lookup c.args.key.now c.args.members.now.entries
 
 pub returns-clause-others : goal.returns-clause-others
 returns-clause-others c =

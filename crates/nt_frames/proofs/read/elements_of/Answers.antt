@@ -14,7 +14,7 @@ pub loop-i-preserved : goal.loop-i-preserved
 loop-i-preserved g c =
     let left : c.args.count - c.loop-i.i ≡ suc (c.args.count - (c.loop-i.i + 1)) = omega arith in
     let more = element-more g.T.Element.stands g.T.Element.number _ _ c.loop-i.list c.in_ok-value.value _
-    c.loop-i.rest.now c.in_ok-value.behind.now _ left
+    c.loop-i.rest.now c.in_ok-value.after.now _ left
     c.loop-i.invariant.stand c.loop-i.invariant.goes_on c.in_ok-value.ensures.reads in
     record { done = more.0; stand = rw c.in_ok-push.ensures.ok more.1; goes_on = more.2 }
 

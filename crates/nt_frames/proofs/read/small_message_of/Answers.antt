@@ -12,11 +12,13 @@ returns-in_err-message-clause-fault c =
 pub returns-then-size-most-clause-fault : goal.returns-then-size-most-clause-fault
 returns-then-size-most-clause-fault c =
     let m = told c.args.bytes.now c.in_ok-message.rest.now c.in_ok-message.message c.in_ok-message.ensures in
-    let large : c.args.most < size_of c.in_ok-message.message.value = omega (arith, c.size.ensures, c.if-size-most.true) in
+    let large : c.args.most < size_of c.in_ok-message.message.value = omega
+    (arith, c.size.ensures, c.if-size-most.true) in
     (c.in_ok-message.message, m.0, c.in_ok-message.rest.now, m.1, m.2, large)
 
 pub returns-clause-message : goal.returns-clause-message
 returns-clause-message c =
     let m = told c.args.bytes.now c.in_ok-message.rest.now c.in_ok-message.message c.in_ok-message.ensures in
-    let small : size_of c.in_ok-message.message.value ≤ c.args.most = omega (arith, c.size.ensures, c.if-size-most.false) in
+    let small : size_of c.in_ok-message.message.value ≤ c.args.most = omega
+    (arith, c.size.ensures, c.if-size-most.false) in
     (m.0, m.1, m.2, small)

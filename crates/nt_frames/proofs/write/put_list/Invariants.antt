@@ -7,4 +7,5 @@ use Rattle.nt_frames.proofs.write.put_list.Given as goal
 abbrev pub invariant-loop-item : goal.invariant-loop-item
 invariant-loop-item g l =
     Listed g.T.Element.number l.fn.out.items l.out.items
-    (array_head l.count ∷ map g.T.Element.written (take l.item-index l.list)) (map g.T.Element.written (take l.item-index l.list))
+    (array_head l.count ∷ map g.T.Element.written (take l.item-index l.list))
+    (map g.T.Element.written (take l.item-index l.list))

@@ -13,10 +13,12 @@ returns-clause-ok c =
     search rules in
     let time : c.put_atom-3.new.out.items ≡ c.put_atom-2.new.out.items ++ shortest (int (pos c.args.message.now.time)) =
     search rules in
-    let number : c.put_atom-4.new.out.items ≡ c.put_atom-3.new.out.items ++ shortest (int (pos (value_number c.args.message.now.value))) =
+    let number : c.put_atom-4.new.out.items ≡ c.put_atom-3.new.out.items
+    ++ shortest (int (pos (value_number c.args.message.now.value))) =
     search rules in
     on_ok_weaker c.put_value.result
-    (five c.args.out.now.items c.put_atom.new.out.items c.put_atom-2.new.out.items c.put_atom-3.new.out.items c.put_atom-4.new.out.items
+    (five c.args.out.now.items c.put_atom.new.out.items c.put_atom-2.new.out.items c.put_atom-3.new.out.items
+    c.put_atom-4.new.out.items
     c.put_value.new.out.items (shortest (array_head 4)) (shortest (int c.args.message.now.id))
     (shortest (int (pos c.args.message.now.time))) (shortest (int (pos (value_number c.args.message.now.value))))
     (flat_map shortest (wire_of c.args.message.now.value)) c.in_ok-put_atom.ensures.ok id time number)

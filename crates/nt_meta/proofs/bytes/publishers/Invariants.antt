@@ -1,5 +1,5 @@
 use Rattle.std.proofs.Common.{◌≡◌, drop}
-use Rattle.nt_meta.specs.Elements.{publishers_of}
+use Rattle.nt_rules.specs.meta.Elements.{publishers_of}
 use Rattle.nt_meta.specs.Packing.{none_packed, with_elements}
 use Rattle.nt_meta.proofs.bytes.publishers.Given as goal
 

@@ -1,5 +1,5 @@
 use Rattle.std.proofs.Common.{◌≡◌, drop}
-use Rattle.nt_meta.specs.Elements.{subscribers_of}
+use Rattle.nt_rules.specs.meta.Elements.{subscribers_of}
 use Rattle.nt_meta.specs.Packing.{none_packed, with_elements}
 use Rattle.nt_meta.proofs.bytes.subscribers.Given as goal
 

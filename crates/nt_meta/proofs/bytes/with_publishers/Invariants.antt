@@ -1,5 +1,5 @@
 use Rattle.std.proofs.Common.{◌≡◌, map, filter, drop, bytes_eq}
-use Rattle.nt_meta.specs.Elements.{topic_publisher}
+use Rattle.nt_rules.specs.meta.Elements.{topic_publisher}
 use Rattle.nt_meta.specs.Packing.{with_elements}
 use Rattle.nt_meta.proofs.bytes.with_publishers.Given as goal
 

@@ -1,6 +1,6 @@
 use Rattle.std.proofs.Common.{◌≡◌, map, filter, drop}
 use Rattle.nt_subs.specs.Wishes.{is_matched}
-use Rattle.nt_meta.specs.Elements.{topic_subscriber}
+use Rattle.nt_rules.specs.meta.Elements.{topic_subscriber}
 use Rattle.nt_meta.specs.Packing.{with_elements}
 use Rattle.nt_meta.proofs.bytes.with_subscribers.Given as goal
 

@@ -1,5 +1,5 @@
 use Rattle.std.proofs.Common.{◌≡◌, ◌++◌, ◌∷◌, [], rules}
-use Rattle.nt_meta.specs.Meta.{client_pub}
+use Rattle.nt_rules.specs.meta.Meta.{client_pub}
 use Rattle.nt_meta.proofs.Metas.{added-next}
 use Rattle.nt_meta.proofs.meta.add_client_pubs.Goals as goal
 

@@ -1,5 +1,5 @@
 use Rattle.std.proofs.Common.{◌≡◌, ◌++◌, ◌∷◌, [], rules}
-use Rattle.nt_meta.specs.Meta.{client_sub}
+use Rattle.nt_rules.specs.meta.Meta.{client_sub}
 use Rattle.nt_meta.proofs.Metas.{added-next}
 use Rattle.nt_meta.proofs.meta.add_client_subs.Goals as goal
 

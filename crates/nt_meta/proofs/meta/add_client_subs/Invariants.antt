@@ -1,5 +1,5 @@
 use Rattle.std.proofs.Common.{◌≡◌, ◌++◌, map, drop}
-use Rattle.nt_meta.specs.Meta.{client_sub}
+use Rattle.nt_rules.specs.meta.Meta.{client_sub}
 use Rattle.nt_meta.proofs.meta.add_client_subs.Given as goal
 
 -- those that were added and those that follow are all

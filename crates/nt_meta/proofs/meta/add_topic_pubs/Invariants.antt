@@ -1,5 +1,5 @@
 use Rattle.std.proofs.Common.{◌≡◌, ◌++◌, map, drop}
-use Rattle.nt_meta.specs.Meta.{topic_pub}
+use Rattle.nt_rules.specs.meta.Meta.{topic_pub}
 use Rattle.nt_meta.proofs.meta.add_topic_pubs.Given as goal
 
 -- those that were added and those that follow are all

@@ -1,6 +1,6 @@
 use Rattle.std.proofs.Common.{◌≡◌, ◌++◌, map, drop}
 use Rattle.nt_msgpack.specs.Atoms.{text}
-use Rattle.nt_meta.specs.Elements.{spelled, texts_atoms}
+use Rattle.nt_rules.specs.meta.Elements.{spelled, texts_atoms}
 use Rattle.nt_meta.proofs.put.put_names.Given as goal
 
 -- what was written and the names that are left are all

@@ -1,8 +1,8 @@
 use Rattle.std.proofs.Common.{◌≡◌, ◌<◌, ◌^◌, ◌∙◌, ℕ, Ok, Err, List, OnOk, sym, arith, subst}
-use Rattle.nt_table.proofs.Calls.{on-ok}
-use Rattle.nt_outbox.specs.declared.mark.Mark.{Mark}
+use Rattle.nt_rules.proofs.Calls.{on-ok}
+use Rattle.nt_rules.specs.outbox.Marks.{Mark}
 use Rattle.nt_outbox.specs.declared.step.Step.{Step}
-use Rattle.nt_outbox.specs.Marks.{at_id}
+use Rattle.nt_rules.specs.outbox.Marks.{at_id}
 use Rattle.nt_outbox.specs.Steps.{after, position_of, RiseFrom}
 use Rattle.nt_outbox.proofs.Places.{stands, gap, after-id, rise-at_id}
 use Rattle.nt_outbox.proofs.marks.change.Goals as goal

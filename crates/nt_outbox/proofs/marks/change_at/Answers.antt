@@ -1,6 +1,6 @@
 use Rattle.std.proofs.Common.{◌∙◌, ap, arith, set}
-use Rattle.nt_table.proofs.Positions.{change-set}
-use Rattle.nt_outbox.specs.Marks.{weight}
+use Rattle.nt_rules.proofs.Positions.{change-set}
+use Rattle.nt_rules.specs.outbox.Marks.{weight}
 use Rattle.nt_outbox.specs.Steps.{after, left_of}
 use Rattle.nt_outbox.proofs.Weights.{part-weight, weight-set, weight-settled}
 use Rattle.nt_outbox.proofs.marks.change_at.Goals as goal

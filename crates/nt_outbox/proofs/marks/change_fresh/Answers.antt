@@ -1,5 +1,5 @@
 use Rattle.std.proofs.Common.{ap, arith}
-use Rattle.nt_outbox.specs.Marks.{weight}
+use Rattle.nt_rules.specs.outbox.Marks.{weight}
 use Rattle.nt_outbox.proofs.Weights.{weight-insert}
 use Rattle.nt_outbox.proofs.marks.change_fresh.Goals as goal
 

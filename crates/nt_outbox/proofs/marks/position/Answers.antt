@@ -1,6 +1,6 @@
 use Rattle.std.proofs.Common.{rules}
 use Rattle.std.proofs.lemmas.List.Sorted.{answers_always}
-use Rattle.nt_outbox.specs.declared.mark.Mark.{Mark}
+use Rattle.nt_rules.specs.outbox.Marks.{Mark}
 use Rattle.nt_outbox.proofs.Places.{searched}
 use Rattle.nt_outbox.proofs.marks.position.Goals as goal
 

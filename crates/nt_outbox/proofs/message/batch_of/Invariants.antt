@@ -1,6 +1,6 @@
 use Rattle.std.proofs.Common.{◌≡◌, ◌++◌, drop, map, filter, not}
-use Rattle.nt_outbox.specs.Keys.{is_value}
-use Rattle.nt_outbox.specs.Messages.{Living, text_of, value_of}
+use Rattle.nt_rules.specs.outbox.Keys.{is_value}
+use Rattle.nt_rules.specs.outbox.Messages.{Living, text_of, value_of}
 use Rattle.nt_outbox.proofs.message.batch_of.Given as goal
 
 -- the messages so far, and those of the keys that follow

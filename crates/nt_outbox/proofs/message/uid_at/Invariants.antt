@@ -1,5 +1,5 @@
 use Rattle.std.proofs.Common.{◌≡◌, drop}
-use Rattle.nt_outbox.specs.Messages.{uid_at}
+use Rattle.nt_rules.specs.outbox.Messages.{uid_at}
 use Rattle.nt_outbox.proofs.message.uid_at.Given as goal
 
 -- what is found is found among those that follow

@@ -1,5 +1,5 @@
 use Rattle.std.proofs.Common.{◌≡◌, ◌+◌, drop}
-use Rattle.nt_outbox.specs.Marks.{settings_weight}
+use Rattle.nt_rules.specs.outbox.Marks.{settings_weight}
 use Rattle.nt_outbox.proofs.weight.settings_weight.Given as goal
 
 -- the weight so far, and that of those that follow

@@ -1,6 +1,6 @@
 use Rattle.std.proofs.Common.{◌≡◌, drop}
-use Rattle.nt_history.specs.Answer.{free_name, given_name}
-use Rattle.nt_history.specs.State.{given_names}
+use Rattle.nt_rules.specs.history.Answer.{free_name, given_name}
+use Rattle.nt_rules.specs.history.State.{given_names}
 use Rattle.nt_server.proofs.names.given_name.Given as goal
 
 -- none of the names before this one is free

@@ -1,6 +1,6 @@
 use Rattle.std.proofs.Common.{◌≡◌, drop}
-use Rattle.nt_history.specs.Answer.{is_used}
-use Rattle.nt_history.specs.State.{given_names}
+use Rattle.nt_rules.specs.history.Answer.{is_used}
+use Rattle.nt_rules.specs.history.State.{given_names}
 use Rattle.nt_server.proofs.names.is_used.Given as goal
 
 -- none of those passed has it

@@ -1,6 +1,6 @@
 use Rattle.std.proofs.Common.{◌≡◌, ◌+◌, ◌∷◌, List, subst, sym, ℕ}
-use Rattle.nt_table.specs.declared.topic.Topic.{Topic}
-use Rattle.nt_table.specs.declared.topic.Saved.{Saved}
+use Rattle.nt_rules.specs.declared.topic.Topic.{Topic}
+use Rattle.nt_rules.specs.declared.topic.Saved.{Saved}
 use Rattle.nt_server.proofs.Restoring.{IsRestoring, restoring-more}
 use Rattle.nt_server.proofs.restore.restored.Goals as goal
 

@@ -1,7 +1,7 @@
 use Rattle.std.proofs.Common.{◌+◌, ◌++◌, [], ◌∷◌, List, drop, append_assoc, sym, ◌∙◌, ap}
-use Rattle.nt_table.specs.declared.topic.Topic.{Topic}
-use Rattle.nt_table.specs.declared.topic.Saved.{Saved}
-use Rattle.nt_history.specs.Saved.{persistent_ones}
+use Rattle.nt_rules.specs.declared.topic.Topic.{Topic}
+use Rattle.nt_rules.specs.declared.topic.Saved.{Saved}
+use Rattle.nt_rules.specs.history.Saved.{persistent_ones}
 use Rattle.nt_server.proofs.Lists.{drop_at}
 use Rattle.nt_server.proofs.Persistent.{saved_more}
 use Rattle.nt_server.proofs.saved.persistent_ones.Goals as goal

@@ -1,5 +1,5 @@
 use Rattle.std.proofs.Common.{◌≡◌, ◌++◌, drop}
-use Rattle.nt_history.specs.Saved.{persistent_ones}
+use Rattle.nt_rules.specs.history.Saved.{persistent_ones}
 use Rattle.nt_server.proofs.saved.persistent_ones.Given as goal
 
 -- those saved and those that follow are all

@@ -3,8 +3,8 @@ use Rattle.std.specs.List.Sorted.{IsPermutation}
 use Rattle.std.specs.Ordering.{is_lt}
 use Rattle.std.proofs.lemmas.Cmp.{nat_list_cmp_total}
 use Rattle.std.proofs.lemmas.List.Sorted.{answers_always, ranks_by}
-use Rattle.nt_table.specs.declared.topic.Saved.{Saved}
-use Rattle.nt_history.specs.Saved.{is_before}
+use Rattle.nt_rules.specs.declared.topic.Saved.{Saved}
+use Rattle.nt_rules.specs.history.Saved.{is_before}
 use Rattle.nt_server.proofs.saved.saved_of.Goals as goal
 
 pub returns : goal.returns

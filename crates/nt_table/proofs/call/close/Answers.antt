@@ -2,8 +2,8 @@ use Rattle.std.proofs.Common.{◌≡◌, ◌≤◌, ◌<◌, ◌+◌, ◌++◌, 
 use Rattle.std.specs.List.Sorted.{IsNonDecreasing}
 use Rattle.std.proofs.lemmas.List.{drop_more}
 use Rattle.std.proofs.Math.ListN.{drop_of_length-le}
-use Rattle.nt_table.specs.Topics.{dropped}
-use Rattle.nt_table.specs.Changes.{drop_changes}
+use Rattle.nt_rules.specs.topics.Topics.{dropped}
+use Rattle.nt_rules.specs.topics.Changes.{drop_changes}
 use Rattle.nt_table.specs.Index.{IsRising, AreAmong}
 use Rattle.nt_table.proofs.Leaving.{after, rising-ordered, rest-ordered, rising-left, dropped-left, told-after, among-left, all-left, all-told}
 use Rattle.nt_table.proofs.call.close.Goals as goal

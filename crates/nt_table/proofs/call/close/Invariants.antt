@@ -1,7 +1,7 @@
 use Rattle.std.proofs.Common.{◌≡◌, ◌++◌, drop}
 use Rattle.std.specs.List.Sorted.{IsNonDecreasing}
-use Rattle.nt_table.specs.Topics.{dropped}
-use Rattle.nt_table.specs.Changes.{drop_changes}
+use Rattle.nt_rules.specs.topics.Topics.{dropped}
+use Rattle.nt_rules.specs.topics.Changes.{drop_changes}
 use Rattle.nt_table.specs.Index.{IsRising, AreAmong}
 use Rattle.nt_table.proofs.call.close.Given as goal
 

@@ -1,8 +1,8 @@
 use Rattle.std.proofs.Common.{◌≡◌, ◌++◌, false, Some, [], ◌∷◌, sym, ◌∙◌, ap, rules}
 use Rattle.std.specs.List.{list_any}
-use Rattle.nt_table.specs.Changes.{told_by, drop_changes}
+use Rattle.nt_rules.specs.topics.Changes.{told_by, drop_changes}
 use Rattle.nt_table.specs.Index.{is_at, left_by}
-use Rattle.nt_table.proofs.Positions.{IsFirst, first-position, position-None, find-first, find-none, change-first, change-none}
+use Rattle.nt_rules.proofs.Positions.{IsFirst, first-position, position-None, find-first, find-none, change-first, change-none}
 use Rattle.nt_table.proofs.call.leave_topic.Goals as goal
 
 pub returns-in_ok-tell_end-in-Some-clause-changes : goal.returns-in_ok-tell_end-in-Some-clause-changes

@@ -1,5 +1,5 @@
 use Rattle.std.proofs.Common.{◌≡◌, ◌++◌, drop}
-use Rattle.nt_table.specs.Changes.{drop_changes}
+use Rattle.nt_rules.specs.topics.Changes.{drop_changes}
 use Rattle.nt_table.proofs.edit.ends_of_conn.Given as goal
 
 -- the ends so far and those that follow are all

@@ -1,6 +1,6 @@
 use Rattle.std.proofs.Common.{rules, tests}
 use Rattle.std.proofs.lemmas.Fn.{filter_same}
-use Rattle.nt_table.specs.Topics.{outlives}
+use Rattle.nt_rules.specs.topics.Topics.{outlives}
 use Rattle.nt_table.proofs.edit.keep_outliving.Goals as goal
 
 pub returns : goal.returns

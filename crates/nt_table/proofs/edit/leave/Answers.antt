@@ -1,8 +1,8 @@
 use Rattle.std.proofs.Common.{◌≡◌, true, false, cond, Some, None, sym, ◌∙◌, ap, arith, rules}
 use Rattle.std.proofs.lemmas.List.{get_or_default}
-use Rattle.nt_table.specs.Topics.{without_conn, outlives}
+use Rattle.nt_rules.specs.topics.Topics.{without_conn, outlives}
 use Rattle.nt_table.specs.Index.{left_by}
-use Rattle.nt_table.proofs.Positions.{set-change, remove-change}
+use Rattle.nt_rules.proofs.Positions.{set-change, remove-change}
 use Rattle.nt_table.proofs.edit.leave.Goals as goal
 
 pub returns-then-outlives : goal.returns-then-outlives
@@ -21,7 +21,7 @@ returns-then-outlives c =
 pub returns-else-outlives : goal.returns-else-outlives
 returns-else-outlives c =
     let over : outlives c.args.conn c.index.result.now ≡ false = search rules in
-    c.remove_at.ensures
+    c.remove-gone.ensures.items
     ∙ remove-change (left_by c.args.conn) c.args.topics.now.items c.args.i c.index.result.now (omega arith)
     c.index.ensures
     (ap (λ b. cond b (Some (without_conn c.args.conn c.index.result.now)) None) over)

@@ -1,5 +1,5 @@
 use Rattle.std.proofs.Common.{◌≡◌, ◌++◌, drop, take, map}
-use Rattle.nt_table.specs.Topics.{without_conn}
+use Rattle.nt_rules.specs.topics.Topics.{without_conn}
 use Rattle.nt_table.proofs.edit.leave_all.Given as goal
 
 -- the topics passed are changed, and the others are to be

@@ -16,4 +16,5 @@ returns-clause-indexed c = λ next h.
     c.forget_conn.ensures.ids c.forget_conn.ensures.counts c.forget_conn.ensures.names in
     subst (λ ts. IsIndexed c.forget_ended.new.index ts next) c.deref.ensures.value
     (c.forget_ended.ensures next
-    (subst (λ ts. IsIndexed c.forget_conn.new.self ts next) (sym (c.deref.ensures.value ∙ c.in_ok-changes.ensures.topics)) right))
+    (subst (λ ts. IsIndexed c.forget_conn.new.self ts next)
+    (sym (c.deref.ensures.value ∙ c.in_ok-changes.ensures.topics)) right))

@@ -2,7 +2,7 @@ use Rattle.std.proofs.Common.{◌≡◌, false, ◌∙◌, ap, rules}
 use Rattle.std.specs.List.{position}
 use Rattle.std.specs.Option.{is_some}
 use Rattle.nt_table.specs.Index.{id_named, is_at}
-use Rattle.nt_table.proofs.Positions.{any-position}
+use Rattle.nt_rules.proofs.Positions.{any-position}
 use Rattle.nt_table.proofs.Steps.{indexed-forgotten}
 use Rattle.nt_table.proofs.indexed.forget_unless_living.Goals as goal
 

@@ -1,7 +1,7 @@
 use Rattle.std.proofs.Common.{◌≡◌, IfOk, sym, subst, w64}
 use Rattle.std.proofs.lemmas.Int.{to_z-of_z}
-use Rattle.nt_table.specs.Topics.{put_cause}
-use Rattle.nt_table.specs.Changes.{outcome_of, put_changes}
+use Rattle.nt_rules.specs.topics.Topics.{put_cause}
+use Rattle.nt_rules.specs.topics.Changes.{outcome_of, put_changes}
 use Rattle.nt_table.proofs.Steps.{publisher-passed}
 use Rattle.nt_table.proofs.indexed.put.Goals as goal
 

@@ -6,7 +6,8 @@ use Rattle.nt_table.proofs.indexed.restore.Goals as goal
 
 pub returns-clause-indexed : goal.returns-clause-indexed
 returns-clause-indexed c =
-    let named : (n : List ℕ) → id_named c.note_name.new.self n ≡ cond (bytes_eq c.args.saved.name n) (Some c.args.next.now) (id_named c.args.index.now n) =
+    let named : (n : List ℕ) → id_named c.note_name.new.self n
+    ≡ cond (bytes_eq c.args.saved.name n) (Some c.args.next.now) (id_named c.args.index.now n) =
     search rules in
     subst (λ n. IsIndexed c.note_name.new.self c.restore.new.topics.items n) (sym c.in_ok-changes.ensures.next)
     (subst (λ ts. IsIndexed c.note_name.new.self ts (c.args.next.now + 1)) (sym c.in_ok-changes.ensures.topics)

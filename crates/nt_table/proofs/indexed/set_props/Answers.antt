@@ -1,6 +1,6 @@
 use Rattle.std.proofs.Common.{sym, ◌∙◌, subst}
 use Rattle.nt_table.specs.Index.{IsRising, IsIndexed}
-use Rattle.nt_table.specs.Topics.{update_cause}
+use Rattle.nt_rules.specs.topics.Topics.{update_cause}
 use Rattle.nt_table.proofs.Steps.{name-passed, rising-props, indexed-props}
 use Rattle.nt_table.proofs.indexed.set_props.Goals as goal
 
@@ -22,4 +22,5 @@ returns-clause-indexed c = λ next h.
     (update_cause c.args.topics.now.items c.args.name.now c.args.update) in
     subst (λ ts. IsIndexed c.forget_ended.new.index ts next) c.deref-2.ensures.value
     (c.forget_ended.ensures next
-    (subst (λ ts. IsIndexed c.args.index.now ts next) (sym (c.deref-2.ensures.value ∙ c.in_ok-outcome.ensures.topics)) right))
+    (subst (λ ts. IsIndexed c.args.index.now ts next) (sym (c.deref-2.ensures.value ∙ c.in_ok-outcome.ensures.topics))
+    right))

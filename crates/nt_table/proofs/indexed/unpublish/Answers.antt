@@ -2,7 +2,7 @@ use Rattle.std.proofs.Common.{◌≡◌, ◌+◌, ◌&&◌, ◌==◌, ℕ, ℤ, 
 use Rattle.std.proofs.lemmas.Int.{to_z-of_z}
 use Rattle.std.specs.Option.{is_some}
 use Rattle.nt_table.specs.Index.{one, id_of, count_of, IsRising, IsIndexed}
-use Rattle.nt_table.specs.Topics.{if_counts, unpublish_cause, unpublished}
+use Rattle.nt_rules.specs.topics.Topics.{if_counts, unpublish_cause, unpublished}
 use Rattle.nt_table.proofs.Numbers.{is_key}
 use Rattle.nt_table.proofs.Steps.{publisher-passed, rising-unpublished, unpublished-either, indexed-without}
 use Rattle.nt_table.proofs.indexed.unpublish.Goals as goal
@@ -30,11 +30,13 @@ returns-clause-indexed c = λ next h.
     (unpublished c.args.topics.now.items c.args.conn c.args.uid) c.args.topics.now.items =
     search rules in
     let ids =
-    subst (λ v. (d : ℕ) (u : ℤ) → id_of c.forget.new.self d u ≡ cond (is_key c.args.conn v d u) None (id_of c.args.index.now d u))
+    subst (λ v. (d : ℕ) (u : ℤ) → id_of c.forget.new.self d u
+    ≡ cond (is_key c.args.conn v d u) None (id_of c.args.index.now d u))
     same c.forget.ensures.ids in
     let counts =
     subst
-    (λ v. (d : ℕ) → count_of c.forget.new.self d + one ((c.args.conn == d) && is_some (id_of c.args.index.now c.args.conn v))
+    (λ v. (d : ℕ) → count_of c.forget.new.self d + one
+    ((c.args.conn == d) && is_some (id_of c.args.index.now c.args.conn v))
     ≡ count_of c.args.index.now d)
     same c.forget.ensures.counts in
     let right : IsIndexed c.forget.new.self (unpublished c.args.topics.now.items c.args.conn c.args.uid) next =

@@ -1,5 +1,5 @@
 use Rattle.std.proofs.Common.{◌≡◌, ◌+◌, ◌≤◌, drop, length, filter, not}
-use Rattle.nt_table.specs.Topics.{is_of}
+use Rattle.nt_rules.specs.topics.Topics.{is_of}
 use Rattle.nt_table.proofs.lookup.others_in.Given as goal
 
 -- those counted and those that follow are all

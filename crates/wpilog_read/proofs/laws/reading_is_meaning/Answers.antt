@@ -1,4 +1,4 @@
-use Rattle.wpilog_read.proofs.Grammar.{reading-means, means-reading, means-some, means-one, items-begin, fault-farthest, reads-front}
+use Rattle.wpilog_read.proofs.Grammar.{reading-means, means-reading, means-some, means-one, items-begin, fault-farthest, reads-prefix}
 use Rattle.wpilog_read.proofs.laws.reading_is_meaning.Goals as goal
 
 pub returns-clause-means : goal.returns-clause-means
@@ -19,5 +19,5 @@ returns-clause-begins c = items-begin
 pub returns-clause-longest : goal.returns-clause-longest
 returns-clause-longest c = fault-farthest
 
-pub returns-clause-front : goal.returns-clause-front
-returns-clause-front c = reads-front
+pub returns-clause-prefix : goal.returns-clause-prefix
+returns-clause-prefix c = reads-prefix

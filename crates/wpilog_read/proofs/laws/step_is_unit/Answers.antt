@@ -1,4 +1,4 @@
-use Rattle.wpilog_read.proofs.Headers.{next-wanting, next-wrong_header, next-behind}
+use Rattle.wpilog_read.proofs.Headers.{next-wanting, next-wrong_header, next-after}
 use Rattle.wpilog_read.proofs.Units.{next-takes, next-again, wanting-no_unit, no_unit-wanting, known-not_plain, not_plain-known}
 use Rattle.wpilog_read.proofs.laws.step_is_unit.Goals as goal
 
@@ -9,10 +9,10 @@ pub returns-clause-wrong_header : goal.returns-clause-wrong_header
 returns-clause-wrong_header c = next-wrong_header
 
 pub returns-clause-opened : goal.returns-clause-opened
-returns-clause-opened c = next-behind
+returns-clause-opened c = next-after
 
 pub returns-clause-item : goal.returns-clause-item
-returns-clause-item c = λ r m x begun e. let t = next-takes r m x begun e in (t.unit, t.parts, t.is, t.at, t.place, t.live)
+returns-clause-item c = λ r m x begun e. let t = next-takes r m x begun e in (t.unit, t.parts, t.is, t.at, t.offset, t.live)
 
 pub returns-clause-read : goal.returns-clause-read
 returns-clause-read c = next-again

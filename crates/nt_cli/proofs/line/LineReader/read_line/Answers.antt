@@ -1,7 +1,5 @@
-use Rattle.std.proofs.Common.{◌≡◌, Bool, [], Ok, ap, ◌∙◌, arith}
-use Rattle.nt_link.specs.Causes.{StaysAtEnd}
+use Rattle.std.proofs.Common.{◌≡◌, Bool, [], Ok, ap, rules}
 use Rattle.nt_cli.specs.LineReading.{Gathers}
-use Rattle.nt_link.proofs.Transfers.{StaysAtEnd-trans}
 use Rattle.nt_cli.proofs.LineReads.{reads-part, reads-on}
 use Rattle.nt_cli.proofs.line.LineReader.read_line.Goals as goal
 
@@ -9,16 +7,10 @@ pub returns-then-not-branch-clause-reads : goal.returns-then-not-branch-clause-r
 returns-then-not-branch-clause-reads g c =
     let gathered : Gathers c.loop-self.self c.gather.new.self c.loop-self.line.items c.gather.new.line.items [] = rw c.if-branch.false at c.in_ok-gather.ensures.gathers in
     let none : c.gather.new.self.bytes ≡ [] = c.in_ok-gather.ensures.all (ap (λ (b : Bool). Ok b) c.if-branch.false) in
-    reads-on _ _ _ _ _ _ _ (reads-part _ _ _ _ _ _ _ _ c.loop-self.invariant.reads gathered c.in_ok-gather.ensures.short) none c.in_ok-refill.ensures.taken c.in_ok-refill.ensures.room
+    reads-on _ _ _ _ _ _ _ (reads-part _ _ _ _ _ _ _ _ c.loop-self.invariant.0 gathered c.in_ok-gather.ensures.short) none c.in_ok-refill.ensures.taken c.in_ok-refill.ensures.room
 
 pub loop-self-preserved : goal.loop-self-preserved
 loop-self-preserved g c =
     let gathered : Gathers c.loop-self.self c.gather.new.self c.loop-self.line.items c.gather.new.line.items [] = rw c.if-branch.false at c.in_ok-gather.ensures.gathers in
     let none : c.gather.new.self.bytes ≡ [] = c.in_ok-gather.ensures.all (ap (λ (b : Bool). Ok b) c.if-branch.false) in
-    let so_far = c.loop-self.invariant in
-    record {
-      reads = reads-on _ _ _ _ _ _ _ (reads-part _ _ _ _ _ _ _ _ so_far.reads gathered c.in_ok-gather.ensures.short) none c.in_ok-refill.ensures.taken c.in_ok-refill.ensures.room;
-      later = omega (arith, so_far.later, c.in_ok-refill.ensures.later);
-      end = StaysAtEnd-trans _ _ _ so_far.end c.in_ok-refill.ensures.end so_far.later;
-      aside = c.in_ok-refill.ensures.aside ∙ so_far.aside;
-    }
+    (reads-on _ _ _ _ _ _ _ (reads-part _ _ _ _ _ _ _ _ c.loop-self.invariant.0 gathered c.in_ok-gather.ensures.short) none c.in_ok-refill.ensures.taken c.in_ok-refill.ensures.room, search rules)

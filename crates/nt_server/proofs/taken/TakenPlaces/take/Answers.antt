@@ -1,13 +1,13 @@
 use Rattle.std.proofs.Common.{◌∙◌, List, subst}
-use Rattle.nt_history.specs.declared.kept.Taken.{Taken}
-use Rattle.nt_server.specs.TakenPlaces.{StandsAt, IsMissedAt}
+use Rattle.nt_rules.specs.declared.taken.Taken.{Taken}
+use Rattle.nt_server.specs.TakenPlaces.{IsFoundAt, IsMissedAt}
 use Rattle.nt_server.proofs.Searching.{rises_with}
 use Rattle.nt_server.proofs.taken.TakenPlaces.take.Goals as goal
 
 pub invariant_of-self : goal.invariant_of-self
 invariant_of-self c =
-    let found : StandsAt c.args.topic c.self.inside.list.items c.in-Ok.i =
-    subst (λ (ts : List Taken). StandsAt c.args.topic ts c.in-Ok.i) c.deref.ensures.value c.in-Ok.ensures
+    let found : IsFoundAt c.args.topic c.self.inside.list.items c.in-Ok.i =
+    subst (λ (ts : List Taken). IsFoundAt c.args.topic ts c.in-Ok.i) c.deref.ensures.value c.in-Ok.ensures
     in
     rises_with c.args.topic c.args.place _ _ c.self.invariant (found.put c.args.place)
 

@@ -1,5 +1,5 @@
 use Rattle.std.proofs.Common.{◌≡◌, drop}
-use Rattle.nt_history.specs.State.{taken_after}
+use Rattle.nt_rules.specs.history.State.{taken_after}
 use Rattle.nt_server.proofs.taken.TakenPlaces.take_changes.Given as goal
 
 -- the changes that follow do to the places what all do to those at the start

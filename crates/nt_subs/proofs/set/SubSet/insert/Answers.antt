@@ -4,7 +4,7 @@ use Rattle.std.specs.Prelude.{insert}
 use Rattle.nt_subs.specs.Subscriptions.{IsKept, are_within, size_of, with_sub}
 use Rattle.nt_subs.specs.declared.sub.Sub.{Sub}
 use Rattle.nt_subs.proofs.Limits.{refused, taken_new, many_new, large_new, fits_new, kept_new, not_cut, passes}
-use Rattle.nt_subs.proofs.Places.{gap}
+use Rattle.nt_subs.proofs.Indices.{gap}
 use Rattle.nt_subs.proofs.set.SubSet.insert.Goals as goal
 use Rattle.nt_subs.proofs.set.SubSet.insert.Goals.{then-len-ge-MOST_SUBS-via-then-len-ge-MOST_SUBS, then-len-ge-MOST_SUBS-via-else-len-ge-MOST_SUBS+then-self-size}
 
@@ -21,10 +21,10 @@ returns-then-len-ge-MOST_SUBS c =
     let no_room : are_within (with_sub uid sub subs) ≡ false =
     elim c.then-len-ge-MOST_SUBS.branch [
       | then-len-ge-MOST_SUBS-via-then-len-ge-MOST_SUBS w ↦
-          many_new uid sub subs held c.args.place kept c.requires
+          many_new uid sub subs held c.args.index kept c.requires
           (let full = w.if-len-ge-MOST_SUBS.true in omega arith)
       | then-len-ge-MOST_SUBS-via-else-len-ge-MOST_SUBS+then-self-size w ↦
-          large_new uid sub subs held c.args.place kept c.requires
+          large_new uid sub subs held c.args.index kept c.requires
           (passes (size_of sub) (2 ^ 64 - 1) held within
           (subst (λ n. 131_072 - held < n) c.size-size.ensures w.if-self-size.true))
     ] in
@@ -34,7 +34,7 @@ returns-then-len-ge-MOST_SUBS c =
 pub insert-requires : goal.insert-requires
 insert-requires c =
     let kept = subst (λ s. IsKept s c.self.inside.size) c.self.view_is c.self.invariant in
-    let within = (gap c.args.uid c.args.self.now c.args.place kept.by_uid c.requires).within in
+    let within = (gap c.args.uid c.args.self.now c.args.index kept.by_uid c.requires).within in
     let count = ap length c.self.view_is in omega arith
 
 -- what the set kept
@@ -59,18 +59,18 @@ room_of c =
 -- it stands at its uid now
 new_of : (c : goal.After-self-1) → c.insert.new.self.items ≡ with_sub c.args.uid c.args.sub c.args.self.now
 new_of c =
-    let place = c.args.place in
+    let index = c.args.index in
     let entry : ℤ × Sub = (c.args.uid, c.args.sub) in
-    let here = gap c.args.uid c.args.self.now place (kept_of c).by_uid c.requires in
+    let here = gap c.args.uid c.args.self.now index (kept_of c).by_uid c.requires in
     rw (to_z-of_z w64 c.args.uid c.ranges.uid) at c.in_ok-insert.ensures.items
-    ∙ ap (λ xs. insert xs place entry) c.self.view_is
+    ∙ ap (λ xs. insert xs index entry) c.self.view_is
     ∙ sym (here.put c.args.sub)
 
 pub invariant_of-self-2 : goal.invariant_of-self-2
 invariant_of-self-2 c =
     let room = room_of c in
     rw (new_of c, room.0)
-    (kept_new c.args.uid c.args.sub c.args.self.now c.self.inside.size c.args.place
+    (kept_new c.args.uid c.args.sub c.args.self.now c.self.inside.size c.args.index
     (kept_of c) c.requires room.2 room.1)
 
 pub returns : goal.returns
@@ -78,8 +78,8 @@ returns c =
     let uid = c.args.uid in
     let sub = c.args.sub in
     let subs = c.args.self.now in
-    let here = gap uid subs c.args.place (kept_of c).by_uid c.requires in
+    let here = gap uid subs c.args.index (kept_of c).by_uid c.requires in
     let room = room_of c in
-    let fits = fits_new uid sub subs c.self.inside.size c.args.place (kept_of c) c.requires room.2 room.1 in
+    let fits = fits_new uid sub subs c.self.inside.size c.args.index (kept_of c) c.requires room.2 room.1 in
     let said = taken_new uid sub subs fits here.missing in
     record { answer = said.0; subs = new_of c ∙ said.1; err = tt }

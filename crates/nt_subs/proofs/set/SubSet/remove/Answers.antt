@@ -1,19 +1,19 @@
 use Rattle.std.proofs.Common.{◌≡◌, ◌-◌, ◌^◌, ap, sym, subst, ◌∙◌, Ok, Err, get_or, length, is_some, arith, lit<, w64}
 use Rattle.std.specs.Prelude.{remove}
 use Rattle.std.proofs.lemmas.Int.{to_z-of_z}
-use Rattle.nt_subs.specs.Subscriptions.{IsKept, place_of, size_of, without_sub}
+use Rattle.nt_subs.specs.Subscriptions.{IsKept, index_of, size_of, without_sub}
 use Rattle.nt_subs.proofs.Limits.{found_old, size_old, kept_without}
-use Rattle.nt_subs.proofs.Places.{stands, gap}
+use Rattle.nt_subs.proofs.Indices.{stands, gap}
 use Rattle.nt_subs.proofs.set.SubSet.remove.Goals as goal
 
 pub index-requires : goal.index-requires
 index-requires c =
     let kept = subst (λ s. IsKept s c.self.inside.size) c.self.view_is c.self.invariant in
     let uid = c.args.uid in
-    let is : Ok c.in-Ok.place ≡ place_of uid c.args.self.now =
+    let is : Ok c.in-Ok.index ≡ index_of uid c.args.self.now =
     rw (to_z-of_z w64 uid c.ranges.uid) at c.in-Ok.ensures
-    ∙ ap (place_of uid) (c.as_slice.ensures.value ∙ c.self.view_is) in
-    let within = (stands uid c.args.self.now c.in-Ok.place kept.by_uid (sym is)).within in
+    ∙ ap (index_of uid) (c.as_slice.ensures.value ∙ c.self.view_is) in
+    let within = (stands uid c.args.self.now c.in-Ok.index kept.by_uid (sym is)).within in
     let count = ap length c.self.view_is in omega arith
 
 pub overflow_sub-self : goal.overflow_sub-self
@@ -21,14 +21,14 @@ overflow_sub-self c =
     let kept = subst (λ s. IsKept s c.self.inside.size) c.self.view_is c.self.invariant in
     let uid = c.args.uid in
     let subs = c.args.self.now in
-    let place = c.in-Ok.place in
+    let index = c.in-Ok.index in
     let entry = c.index.result.now in
-    let is : Ok place ≡ place_of uid subs =
+    let is : Ok index ≡ index_of uid subs =
     rw (to_z-of_z w64 uid c.ranges.uid) at c.in-Ok.ensures
-    ∙ ap (place_of uid) (c.as_slice.ensures.value ∙ c.self.view_is) in
-    let at_place : entry ≡ get_or subs place entry =
-    subst (λ s. entry ≡ get_or s place entry) c.self.view_is c.index.ensures in
-    let old = size_old uid subs c.self.inside.size place kept (sym is) entry at_place (2 ^ 64 - 1)
+    ∙ ap (index_of uid) (c.as_slice.ensures.value ∙ c.self.view_is) in
+    let at_index : entry ≡ get_or subs index entry =
+    subst (λ s. entry ≡ get_or s index entry) c.self.view_is c.index.ensures in
+    let old = size_old uid subs c.self.inside.size index kept (sym is) entry at_index (2 ^ 64 - 1)
     (lit< tt) in
     let size = c.size.ensures in omega arith
 
@@ -36,64 +36,64 @@ pub remove-requires : goal.remove-requires
 remove-requires c =
     let kept = subst (λ s. IsKept s c.self.inside.size) c.self.view_is c.self.invariant in
     let uid = c.args.uid in
-    let is : Ok c.in-Ok.place ≡ place_of uid c.args.self.now =
+    let is : Ok c.in-Ok.index ≡ index_of uid c.args.self.now =
     rw (to_z-of_z w64 uid c.ranges.uid) at c.in-Ok.ensures
-    ∙ ap (place_of uid) (c.as_slice.ensures.value ∙ c.self.view_is) in
-    let within = (stands uid c.args.self.now c.in-Ok.place kept.by_uid (sym is)).within in
+    ∙ ap (index_of uid) (c.as_slice.ensures.value ∙ c.self.view_is) in
+    let within = (stands uid c.args.self.now c.in-Ok.index kept.by_uid (sym is)).within in
     let count = ap length c.self.view_is in omega arith
 
 -- what the set kept
 kept_of : (c : goal.After-drop-remove) → IsKept c.args.self.now c.self.inside.size
 kept_of c = subst (λ s. IsKept s c.self.inside.size) c.self.view_is c.self.invariant
 
--- the uid's place
-place_is : (c : goal.After-drop-remove) → place_of c.args.uid c.args.self.now ≡ Ok c.in-Ok.place
-place_is c =
+-- the uid's index
+index_is : (c : goal.After-drop-remove) → index_of c.args.uid c.args.self.now ≡ Ok c.in-Ok.index
+index_is c =
     let uid = c.args.uid in
-    let is : Ok c.in-Ok.place ≡ place_of uid c.args.self.now =
+    let is : Ok c.in-Ok.index ≡ index_of uid c.args.self.now =
     rw (to_z-of_z w64 uid c.ranges.uid) at c.in-Ok.ensures
-    ∙ ap (place_of uid) (c.as_slice.ensures.value ∙ c.self.view_is) in
+    ∙ ap (index_of uid) (c.as_slice.ensures.value ∙ c.self.view_is) in
     sym is
 
 -- what stood there
 entry_of : (c : goal.After-drop-remove) → c.index.result.now
-    ≡ get_or c.args.self.now c.in-Ok.place c.index.result.now
+    ≡ get_or c.args.self.now c.in-Ok.index c.index.result.now
 entry_of c =
     let entry = c.index.result.now in
-    subst (λ s. entry ≡ get_or s c.in-Ok.place entry) c.self.view_is c.index.ensures
+    subst (λ s. entry ≡ get_or s c.in-Ok.index entry) c.self.view_is c.index.ensures
 
 -- it is gone
 new_of : (c : goal.After-drop-remove) → c.remove.new.self.items ≡ without_sub c.args.uid c.args.self.now
 new_of c =
-    let here = stands c.args.uid c.args.self.now c.in-Ok.place (kept_of c).by_uid (place_is c) in
-    c.remove.ensures.items ∙ ap (λ xs. remove xs c.in-Ok.place) c.self.view_is ∙ sym here.taken
+    let here = stands c.args.uid c.args.self.now c.in-Ok.index (kept_of c).by_uid (index_is c) in
+    c.remove.ensures.items ∙ ap (λ xs. remove xs c.in-Ok.index) c.self.view_is ∙ sym here.taken
 
 pub invariant_of-self : goal.invariant_of-self
 invariant_of-self c =
     let uid = c.args.uid in
     let subs = c.args.self.now in
     let held = c.self.inside.size in
-    let place = c.in-Ok.place in
+    let index = c.in-Ok.index in
     let entry = c.index.result.now in
-    let old = size_old uid subs held place (kept_of c) (place_is c) entry (entry_of c) (2 ^ 64 - 1)
+    let old = size_old uid subs held index (kept_of c) (index_is c) entry (entry_of c) (2 ^ 64 - 1)
     (lit< tt) in
     let size : c.size.result ≡ size_of entry.1 = c.size.ensures ∙ old.0 in
-    rw (new_of c, size) (kept_without uid subs held place (kept_of c) (place_is c) entry (entry_of c))
+    rw (new_of c, size) (kept_without uid subs held index (kept_of c) (index_is c) entry (entry_of c))
 
 pub returns-in-Ok : goal.returns-in-Ok
 returns-in-Ok c =
     let uid = c.args.uid in
     let entry = c.index.result.now in
-    let had = found_old uid c.args.self.now c.self.inside.size c.in-Ok.place (kept_of c)
-    (place_is c) entry (entry_of c) in
+    let had = found_old uid c.args.self.now c.self.inside.size c.in-Ok.index (kept_of c)
+    (index_is c) entry (entry_of c) in
     record { found = sym (ap is_some had); subs = new_of c }
 
 pub returns-in-Err : goal.returns-in-Err
 returns-in-Err c =
     let kept = subst (λ s. IsKept s c.self.inside.size) c.self.view_is c.self.invariant in
     let uid = c.args.uid in
-    let is : Err c.in-Err.field-0 ≡ place_of uid c.args.self.now =
+    let is : Err c.in-Err.field-0 ≡ index_of uid c.args.self.now =
     rw (to_z-of_z w64 uid c.ranges.uid) at c.in-Err.ensures
-    ∙ ap (place_of uid) (c.as_slice.ensures.value ∙ c.self.view_is) in
+    ∙ ap (index_of uid) (c.as_slice.ensures.value ∙ c.self.view_is) in
     let here = gap uid c.args.self.now c.in-Err.field-0 kept.by_uid (sym is) in
     record { found = sym (ap is_some here.missing); subs = sym here.same }

@@ -5,9 +5,11 @@ use Rattle.nt_table.proofs.table.Table.unpublish.Goals as goal
 
 pub unpublish-outcome-requires-clause-indexed : goal.unpublish-outcome-requires-clause-indexed
 unpublish-outcome-requires-clause-indexed c =
-    publisher-passed c.self.inside.index c.self.inside.topics.items c.self.inside.topics.items c.args.conn c.args.uid _ refl
+    publisher-passed c.self.inside.index c.self.inside.topics.items c.self.inside.topics.items c.args.conn c.args.uid _
+    refl
     (sym (to_z-of_z w64 c.args.uid c.ranges.uid))
-    (position-publisher c.self.inside.index c.self.inside.topics.items c.self.inside.next (c.self.invariant c.if-self.false)
+    (position-publisher c.self.inside.index c.self.inside.topics.items c.self.inside.next
+    (c.self.invariant c.if-self.false)
     c.args.conn c.args.uid)
 
 pub invariant_of-self : goal.invariant_of-self

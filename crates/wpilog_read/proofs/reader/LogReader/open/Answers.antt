@@ -1,7 +1,7 @@
 use Rattle.std.proofs.Common.{◌≡◌, ◌≤◌, true, length, nat_eq, arith, rules}
 use Rattle.std.specs.List.{starts_with}
 use Rattle.wpilog_write.specs.Log.{header}
-use Rattle.wpilog_read.proofs.Places.{header-next}
+use Rattle.wpilog_read.proofs.Offsets.{header-next}
 use Rattle.wpilog_read.proofs.reader.LogReader.open.Goals as goal
 
 pub returns-clause-ok : goal.returns-clause-ok

@@ -1,11 +1,11 @@
 use Rattle.std.proofs.Common.{◌≡◌, length, arith, rules}
-use Rattle.wpilog_read.proofs.Places.{record-behind, record-next}
+use Rattle.wpilog_read.proofs.Offsets.{record-after, record-next}
 use Rattle.wpilog_read.proofs.reader.LogReader.read.Goals as goal
 
 pub overflow_sub-self : goal.overflow_sub-self
 overflow_sub-self c =
     let read = rw (c.rest.ensures, ← c.self.view_is) at c.in_ok-fields.ensures in
-    omega (arith, (record-behind c.self.inside.bytes.items _ c.self.inside.taken _ (search rules) read).within)
+    omega (arith, (record-after c.self.inside.bytes.items _ c.self.inside.taken _ (search rules) read).within)
 
 pub returns-clause-ok : goal.returns-clause-ok
 returns-clause-ok c =
@@ -16,11 +16,11 @@ pub returns-clause-forward : goal.returns-clause-forward
 returns-clause-forward c =
     let read = rw (c.rest.ensures, ← c.self.view_is) at c.in_ok-fields.ensures in
     let len : c.len.result ≡ length c.self.inside.bytes.items = search rules in
-    rw (← c.self.view_is, len) (record-behind c.self.inside.bytes.items _ c.self.inside.taken _ (search rules) read).forward
+    rw (← c.self.view_is, len) (record-after c.self.inside.bytes.items _ c.self.inside.taken _ (search rules) read).forward
 
 pub returns-clause-shorter : goal.returns-clause-shorter
 returns-clause-shorter c =
     let read = rw (c.rest.ensures, ← c.self.view_is) at c.in_ok-fields.ensures in
     let len : c.len.result ≡ length c.self.inside.bytes.items = search rules in
-    let behind = record-behind c.self.inside.bytes.items c.in_ok-fields.after.now c.self.inside.taken _ (search rules) read in
+    let behind = record-after c.self.inside.bytes.items c.in_ok-fields.after.now c.self.inside.taken _ (search rules) read in
     rw (← c.self.view_is, len, behind.is) behind.shorter

@@ -1,0 +1,546 @@
+-- Where values were taken: the changes of an entry do to the places what the entry does to the lives.
+use Rattle.std.proofs.Common.{◌≡◌, ◌≤◌, ◌<◌, ◌+◌, ◌^◌, ◌&&◌, ◌||◌, ◌==◌, not, ℕ, ℤ, suc, pos, Bool, true, false, cond}
+use Rattle.std.proofs.Common.{ltb, List, [], ◌∷◌, ◌++◌, Option, Some, None, map, filter, length, refl, sym, ◌∙◌, ap}
+use Rattle.std.proofs.Common.{subst, arith}
+use Rattle.std.specs.Prelude.{is_some}
+use Rattle.std.specs.List.{cons_option, list_any, find, filter_map}
+use Rattle.std.proofs.lemmas.Bool.Decides.{nat_tests}
+use Rattle.serde_json.specs.Data.{Data}
+use Rattle.nt_control.specs.declared.message.ClientMsg.TheVariants.{Publish, Unpublish, SetProps, Subscribe}
+use Rattle.nt_control.specs.declared.message.ClientMsg.TheVariants.{Unsubscribe}
+use Rattle.nt_subs.specs.Subscriptions.{Subs}
+use Rattle.nt_values.specs.declared.value.Value.{Value}
+use Rattle.nt_rules.specs.Limits.{last_id}
+use Rattle.nt_rules.specs.declared.topic.Pub.{Pub}
+use Rattle.nt_rules.specs.declared.topic.Topic.{Topic}
+use Rattle.nt_rules.specs.declared.topic.Change.{Change}
+use Rattle.nt_rules.specs.declared.topic.Change.TheVariants.{Started}
+use Rattle.nt_rules.specs.declared.topic.Cause.TheVariants.{Older}
+use Rattle.nt_rules.specs.topics.Puts.{Put, greatest}
+use Rattle.nt_rules.specs.topics.Topics.{has_conn, has_publisher, is_named, lives_on, outlives, put_cause, put_cause_at}
+use Rattle.nt_rules.specs.topics.Topics.{without_publisher as topic_without_publisher, with_update}
+use Rattle.nt_rules.specs.topics.Changes.{told_by, put_change, end_of, update_change, drop_changes, ended}
+use Rattle.nt_rules.specs.outbox.Calls.{id_of}
+use Rattle.nt_rules.specs.declared.act.Msg.{Msg}
+use Rattle.nt_rules.specs.declared.act.Msg.TheVariants as msg
+use Rattle.nt_rules.specs.declared.taken.Taken.{Taken}
+use Rattle.nt_rules.specs.history.Lives.{Life, topics, topic_of, is_living, at_living, or_ended, with_publishing, born}
+use Rattle.nt_rules.specs.history.Lives.{without_publisher, without_conn, with_setting, with_a_put, closed_for, held_of}
+use Rattle.nt_rules.specs.history.Now.{said_cause, lives_after}
+use Rattle.nt_rules.specs.history.Marks.{held_place}
+use Rattle.nt_rules.specs.history.State.{with_taken, without_taken, if_id, taken_by, taken_after, changes_said}
+use Rattle.nt_laws.proofs.histories.Facts.{IsNumberedLives}
+use Rattle.nt_laws.proofs.topics.TakenPuts.{held-put, held-older}
+use Rattle.nt_laws.proofs.topics.TopicLaws.{counts-newer, refused-older}
+
+-- ---- the place of a life
+
+-- where a held put was taken
+abbrev taken_place : ℕ → Option Put → Option Taken
+taken_place id None = None
+taken_place id (Some p) = cond (ltb 0 p.place) (Some (record { topic = id; place = p.place })) None
+
+held_place-is : (l : Life) → held_place l ≡ cond (is_living l) (taken_place l.id (held_of l)) None
+held_place-is l = by l.puts
+  where
+    by : (ps : List Put)
+        → held_place (record l { puts = ps }) ≡ cond (is_living l) (taken_place l.id (greatest ps)) None
+    by [] = refl
+    by (p ∷ ps) = refl
+
+held-living : (l : Life) → is_living l ≡ true → held_place l ≡ taken_place l.id (held_of l)
+held-living l e = held_place-is l ∙ ap (λ b. cond b (taken_place l.id (held_of l)) None) e
+
+held-over : (l : Life) → is_living l ≡ false → held_place l ≡ None
+held-over l e = held_place-is l ∙ ap (λ b. cond b (taken_place l.id (held_of l)) None) e
+
+-- lives of one id that hold the same have the same place
+same-held : (l m : Life) → m.id ≡ l.id → m.over ≡ l.over → held_of m ≡ held_of l → held_place m ≡ held_place l
+same-held l m id over held =
+    held_place-is m
+    ∙ ap (λ n. cond (is_living m) (taken_place n (held_of m)) None) id
+    ∙ ap (λ o. cond (is_living m) (taken_place l.id o) None) held
+    ∙ ap (λ (o : Option ℕ). cond (not (is_some o)) (taken_place l.id (held_of l)) None) over
+    ∙ sym (held_place-is l)
+
+-- the place names its life
+abbrev IsOf : ℕ → Option Taken → Type 0
+IsOf id None = Unit {0}
+IsOf id (Some t) = t.topic ≡ id
+
+held-of : (l : Life) → IsOf l.id (held_place l)
+held-of l = subst (IsOf l.id) (sym (held_place-is l)) (by (is_living l) (held_of l))
+  where
+    by : (b : Bool) (o : Option Put) → IsOf l.id (cond b (taken_place l.id o) None)
+    by false o = tt
+    by true None = tt
+    by true (Some p) = placed (ltb 0 p.place)
+      where
+        placed : (b : Bool) → IsOf l.id (cond b (Some (record { topic = l.id; place = p.place })) None)
+        placed true = refl
+        placed false = tt
+
+-- the places of lives
+abbrev places : List Life → List Taken
+places lives = filter_map held_place lives
+
+-- ---- places above an id
+
+abbrev pub AreAbove : ℕ → List Taken → Type 0
+AreAbove id [] = Unit {0}
+AreAbove id (t ∷ ts) = (id < t.topic) × AreAbove id ts
+
+above-cons : (id k : ℕ) (o : Option Taken) (ts : List Taken) → IsOf k o → id < k → AreAbove id ts
+    → AreAbove id (cons_option o ts)
+above-cons id k None ts e h a = a
+above-cons id k (Some t) ts e h a = (omega arith, a)
+
+pub above-held : (id k : ℕ) (lives : List Life) → id < k → IsNumberedLives k lives
+    → AreAbove id (places lives)
+above-held id k [] h n = tt
+above-held id k (l ∷ lives) h n =
+    let same : l.id ≡ k = n.0 in
+    above-cons id l.id (held_place l) (places lives) (held-of l) (omega arith)
+    (above-held id (suc k) lives (omega arith) n.1)
+
+-- a place stands where its id is, and else before the first that is above
+with-by : (id place : ℕ) (t : Taken) (ts : List Taken) (same before : Bool) → (t.topic == id) ≡ same
+    → ltb id t.topic ≡ before
+    → with_taken id place (t ∷ ts)
+    ≡ cond same (record { topic = id; place = place } ∷ ts)
+    (cond before (record { topic = id; place = place } ∷ t ∷ ts) (t ∷ with_taken id place ts))
+with-by id place t ts same before e h = cc
+
+-- the place of an id that is below all stands first
+with-first : (id place : ℕ) (o : Option Taken) (ts : List Taken) → IsOf id o → AreAbove id ts
+    → with_taken id place (cons_option o ts) ≡ record { topic = id; place = place } ∷ ts
+with-first id place (Some t) ts e a =
+    with-by id place t ts true (ltb id t.topic) (grind (arith, nat_tests)) refl
+with-first id place None [] e a = refl
+with-first id place None (t ∷ ts) e a =
+    let less = a.0 in
+    with-by id place t ts false true (grind (arith, nat_tests)) (grind (arith, nat_tests))
+
+with-later : (id place : ℕ) (t : Taken) (ts : List Taken) → t.topic < id
+    → with_taken id place (t ∷ ts) ≡ t ∷ with_taken id place ts
+with-later id place t ts less =
+    with-by id place t ts false false (grind (arith, nat_tests)) (grind (arith, nat_tests))
+
+without-above : (id : ℕ) (ts : List Taken) → AreAbove id ts → without_taken id ts ≡ ts
+without-above id [] a = refl
+without-above id (t ∷ ts) a =
+    let less = a.0 in
+    let other : (t.topic == id) ≡ false = grind (arith, nat_tests) in
+    ap (λ b. cond (not b) (t ∷ without_taken id ts) (without_taken id ts)) other
+    ∙ ap (λ us. t ∷ us) (without-above id ts a.1)
+
+without-first : (id : ℕ) (o : Option Taken) (ts : List Taken) → IsOf id o → AreAbove id ts
+    → without_taken id (cons_option o ts) ≡ ts
+without-first id None ts e a = without-above id ts a
+without-first id (Some t) ts e a =
+    let same : (t.topic == id) ≡ true = grind (arith, nat_tests) in
+    ap (λ b. cond (not b) (t ∷ without_taken id ts) (without_taken id ts)) same ∙ without-above id ts a
+
+without-later : (id : ℕ) (t : Taken) (ts : List Taken) → t.topic < id → without_taken id (t ∷ ts)
+    ≡ t ∷ without_taken id ts
+without-later id t ts less =
+    let other : (t.topic == id) ≡ false = grind (arith, nat_tests) in
+    ap (λ b. cond (not b) (t ∷ without_taken id ts) (without_taken id ts)) other
+
+-- an id that a topic has is one that a change tells
+id_of-is : (id : ℕ) → id ≤ last_id → id_of (pos id) ≡ Some id
+id_of-is id h = let small : ltb id (2 ^ 32)
+    ≡ true = grind (arith, nat_tests) in ap (λ b. cond b (Some id) None) small
+
+-- ---- changes of one topic
+
+-- what changes of a topic do: nothing to the places of those before it
+abbrev IsLater : ℕ → (Topic → List Change) → Type 0
+IsLater place c =
+    (t : Topic) (x : Taken) (xs : List Taken) → x.topic < t.id → t.id ≤ last_id
+    → taken_after place (c t) (x ∷ xs) ≡ x ∷ taken_after place (c t) xs
+
+-- the topic that is found is of a life from this id on
+found-from : (test : Topic → Bool) (k : ℕ) (lives : List Life) (t : Topic) → IsNumberedLives k lives
+    → find test (topics lives) ≡ Some t → (k ≤ t.id) × (t.id < k + length lives)
+found-from test k [] t n e = absurd (cc)
+found-from test k (l ∷ lives) t n e = by (λ h. found-from test (suc k) lives t n.1 h) (is_living l) e
+  where
+    same : l.id ≡ k
+    same = n.0
+
+    wider : (suc k ≤ t.id) × (t.id < suc k + length lives) → (k ≤ t.id) × (t.id < k + suc (length lives))
+    wider h = let low = h.0 in let high = h.1 in (omega arith, omega arith)
+
+    here : topic_of l ≡ t → (k ≤ t.id) × (t.id < k + suc (length lives))
+    here e = let id : l.id ≡ t.id = ap (λ (t : Topic). t.id) e in (omega arith, omega arith)
+
+    on : (find test (topics lives) ≡ Some t → (suc k ≤ t.id) × (t.id < suc k + length lives)) → (b : Bool)
+        → cond b (Some (topic_of l)) (find test (topics lives)) ≡ Some t
+        → (k ≤ t.id) × (t.id < k + suc (length lives))
+    on more true e = here (let f : Some (topic_of l) ≡ Some t = e in cc)
+    on more false e = wider (more e)
+
+    by : (find test (topics lives) ≡ Some t → (suc k ≤ t.id) × (t.id < suc k + length lives)) → (b : Bool)
+        → find test (cons_option (cond b (Some (topic_of l)) None) (topics lives)) ≡ Some t
+        → (k ≤ t.id) × (t.id < k + suc (length lives))
+    by more true e = on more (test (topic_of l)) e
+    by more false e = wider (more e)
+
+-- changes of a topic that is found further on leave the first place
+found-later : (place : ℕ) (c : Topic → List Change) (o : Option Topic) (x : Taken) (xs : List Taken)
+    → IsLater place c
+    → ((t : Topic) → o ≡ Some t → (x.topic < t.id) × (t.id ≤ last_id))
+    → taken_after place (told_by c o) (x ∷ xs) ≡ x ∷ taken_after place (told_by c o) xs
+found-later place c None x xs later h = refl
+found-later place c (Some t) x xs later h = let both = h t refl in later t x xs both.0 both.1
+
+-- a change of the first life that goes on and passes, and the changes that the first topic that does tells
+pub taken-at : (test : Topic → Bool) (f : Life → Life) (place : ℕ) (c : Topic → List Change)
+    (P : Option Topic → Type 0)
+    → IsLater place c
+    → ((l : Life) (xs : List Taken) → is_living l ≡ true → P (Some (topic_of l)) → l.id ≤ last_id
+    → AreAbove l.id xs
+    → taken_after place (c (topic_of l)) (cons_option (held_place l) xs) ≡ cons_option (held_place (f l)) xs)
+    → (k : ℕ) (lives : List Life) → IsNumberedLives k lives → k + length lives ≤ suc last_id
+    → P (find test (topics lives))
+    → places (at_living test f lives)
+    ≡ taken_after place (told_by c (find test (topics lives))) (places lives)
+taken-at test f place c P later same k [] n few h = refl
+taken-at test f place c P later same k (l ∷ lives) n few h =
+    by (λ h. taken-at test f place c P later same (suc k) lives n.1 (omega arith) h) (is_living l) refl h
+  where
+    xs : List Taken
+    xs = places lives
+
+    found : Option Topic
+    found = find test (topics lives)
+
+    after : List Taken
+    after = places (at_living test f lives)
+
+    id : l.id ≡ k
+    id = n.0
+
+    above : AreAbove l.id xs
+    above = above-held l.id (suc k) lives (omega arith) n.1
+
+    pass : (o : Option Taken) → IsOf l.id o
+        → cons_option o (taken_after place (told_by c found) xs)
+        ≡ taken_after place (told_by c found) (cons_option o xs)
+    pass None e = refl
+    pass (Some x) e =
+        let topic : x.topic ≡ l.id = e in
+        sym (found-later place c found x xs later
+        (λ t is.
+        let both = found-from test (suc k) lives t n.1 is in
+        let low = both.0 in
+        let high = both.1 in
+        (omega arith, omega arith)))
+
+    skip : after ≡ taken_after place (told_by c found) xs
+        → cons_option (held_place l) after
+        ≡ taken_after place (told_by c found) (cons_option (held_place l) xs)
+    skip more = ap (λ ts. cons_option (held_place l) ts) more ∙ pass (held_place l) (held-of l)
+
+    on : (P found → after ≡ taken_after place (told_by c found) xs) → is_living l ≡ true → (b : Bool)
+        → P (cond b (Some (topic_of l)) found)
+        → places (cond b (f l ∷ lives) (l ∷ at_living test f lives))
+        ≡ taken_after place (told_by c (cond b (Some (topic_of l)) found)) (cons_option (held_place l) xs)
+    on more living true h = sym (same l xs living h (omega arith) above)
+    on more living false h = skip (more h)
+
+    by : (P found → after ≡ taken_after place (told_by c found) xs) → (b : Bool) → is_living l ≡ b
+        → P (find test (cons_option (cond b (Some (topic_of l)) None) (topics lives)))
+        → places (cond (b && test (topic_of l)) (f l ∷ lives) (l ∷ at_living test f lives))
+        ≡ taken_after place
+        (told_by c (find test (cons_option (cond b (Some (topic_of l)) None) (topics lives))))
+        (cons_option (held_place l) xs)
+    by more true living h = on more living (test (topic_of l)) h
+    by more false living h = skip (more h)
+
+-- ---- what is told of a topic
+
+untold-later : (place : ℕ) → IsLater place (λ t. [])
+untold-later place t x xs less small = refl
+
+told-none : (o : Option Topic) → told_by (λ t. []) o ≡ []
+told-none None = refl
+told-none (Some t) = refl
+
+put-later : (place time : ℕ) (value : Value) → IsLater place (put_change time value)
+put-later place time value t x xs less small =
+    ap (λ o. if_id o (λ n. with_taken n place (x ∷ xs)) (x ∷ xs)) (id_of-is t.id small)
+    ∙ with-later t.id place x xs less
+    ∙ sym (ap (λ o. x ∷ if_id o (λ n. with_taken n place xs) xs) (id_of-is t.id small))
+
+ended-later : (place : ℕ) (t : Topic) (x : Taken) (xs : List Taken) → x.topic < t.id → t.id ≤ last_id
+    → taken_by place (ended t) (x ∷ xs) ≡ x ∷ taken_by place (ended t) xs
+ended-later place t x xs less small =
+    ap (λ o. if_id o (λ n. without_taken n (x ∷ xs)) (x ∷ xs)) (id_of-is t.id small)
+    ∙ without-later t.id x xs less
+    ∙ sym (ap (λ o. x ∷ if_id o (λ n. without_taken n xs) xs) (id_of-is t.id small))
+
+-- the end of what is left of a topic
+end-later : (place : ℕ) (g : Topic → Topic) → ((t : Topic) → (g t).id ≡ t.id)
+    → IsLater place (λ t. end_of (g t))
+end-later place g same t x xs less small = by (lives_on (g t))
+  where
+    id : (g t).id ≡ t.id
+    id = same t
+
+    by : (b : Bool) → taken_after place (cond b [] (ended (g t) ∷ [])) (x ∷ xs)
+        ≡ x ∷ taken_after place (cond b [] (ended (g t) ∷ [])) xs
+    by true = refl
+    by false = ended-later place (g t) x xs (omega arith) (omega arith)
+
+ended-first : (place : ℕ) (t : Topic) (o : Option Taken) (xs : List Taken) → t.id ≤ last_id → IsOf t.id o
+    → AreAbove t.id xs
+    → taken_by place (ended t) (cons_option o xs) ≡ xs
+ended-first place t o xs small e above =
+    ap (λ i. if_id i (λ n. without_taken n (cons_option o xs)) (cons_option o xs)) (id_of-is t.id small)
+    ∙ without-first t.id o xs e above
+
+-- a life that ends unless its topic lives on has a place no more where it ends
+end-here : (place : ℕ) (l m : Life) (xs : List Taken) → m.id ≡ l.id → held_place m ≡ held_place l
+    → l.id ≤ last_id
+    → AreAbove l.id xs
+    → taken_after place (end_of (topic_of m)) (cons_option (held_place l) xs)
+    ≡ cons_option (held_place (or_ended place m)) xs
+end-here place l m xs id same small above = by (lives_on (topic_of m))
+  where
+    by : (b : Bool) → taken_after place (cond b [] (ended (topic_of m) ∷ [])) (cons_option (held_place l) xs)
+        ≡ cons_option (held_place (cond b m (record m { over = Some place }))) xs
+    by true = ap (λ o. cons_option o xs) (sym same)
+    by false =
+        ended-first place (topic_of m) (held_place l) xs (omega arith)
+        (subst (λ n. IsOf n (held_place l)) (sym id) (held-of l)) (subst (λ n. AreAbove n xs) (sym id) above)
+        ∙ sym (ap (λ o. cons_option o xs) (held-over (record m { over = Some place }) refl))
+
+-- ---- messages that count
+
+module _ (place : ℕ) (lives : List Life) (numbered : IsNumberedLives 1 lives)
+    (few : length lives ≤ last_id) where
+  -- a put that counts is taken at its place
+  pub taken-put-at : (conn : ℕ) (uid : ℤ) (time : ℕ) (value : Value) → 1 ≤ place
+      → put_cause (topics lives) conn uid time value ≡ None
+      → places
+      (at_living (has_publisher conn uid)
+      (with_a_put (record { place = place; time = time; value = value })) lives)
+      ≡ taken_after place (told_by (put_change time value) (find (has_publisher conn uid) (topics lives)))
+      (places lives)
+  taken-put-at conn uid time value real e =
+      taken-at (has_publisher conn uid) (with_a_put p) place (put_change time value)
+      (λ o. put_cause_at conn uid time value o ≡ None) (put-later place time value) same 1 lives numbered
+      (omega arith) e
+    where
+      p : Put
+      p = record { place = place; time = time; value = value }
+
+      same : (l : Life) (xs : List Taken) → is_living l ≡ true
+          → put_cause_at conn uid time value (Some (topic_of l)) ≡ None
+          → l.id ≤ last_id → AreAbove l.id xs
+          → taken_after place (put_change time value (topic_of l)) (cons_option (held_place l) xs)
+          ≡ cons_option (held_place (with_a_put p l)) xs
+      same l xs living counts small above =
+          let after : ltb 0 place ≡ true = grind (arith, nat_tests) in
+          let held : held_place (with_a_put p l) ≡ Some (record { topic = l.id; place = place }) =
+          held-living (with_a_put p l) living
+          ∙ ap (λ o. taken_place l.id o) (held-put p l (counts-newer conn uid time value (topic_of l) counts))
+          ∙ ap (λ b. cond b (Some (record { topic = l.id; place = place })) None) after
+          in
+          ap (λ i. if_id i (λ n. with_taken n place (cons_option (held_place l) xs))
+          (cons_option (held_place l) xs)) (id_of-is l.id small)
+          ∙ with-first l.id place (held_place l) xs (held-of l) above
+          ∙ sym (ap (λ o. cons_option o xs) held)
+
+  -- one that is older isn't
+  pub taken-older-at : (conn : ℕ) (uid : ℤ) (p : Put) → put_cause (topics lives) conn uid p.time p.value
+      ≡ Some Older
+      → places (at_living (has_publisher conn uid) (with_a_put p) lives)
+      ≡ places lives
+  taken-older-at conn uid p e =
+      taken-at (has_publisher conn uid) (with_a_put p) place (λ t. [])
+      (λ o. put_cause_at conn uid p.time p.value o ≡ Some Older) (untold-later place)
+      (λ l xs living older small above.
+      let held = held-older p l (refused-older conn uid p.time p.value (topic_of l) older) in
+      ap (λ o. cons_option o xs) (sym (same-held l (with_a_put p l) refl refl held)))
+      1 lives numbered (omega arith) e
+      ∙ ap (λ cs. taken_after place cs (places lives))
+      (told-none (find (has_publisher conn uid) (topics lives)))
+
+  -- a publish of a living topic takes no value
+  taken-joined : (name : List ℕ) (p : Pub)
+      → places (at_living (is_named name) (with_publishing place p) lives)
+      ≡ places lives
+  taken-joined name p =
+      taken-at (is_named name) (with_publishing place p) place (λ t. []) (λ o. Unit {0}) (untold-later place)
+      (λ l xs living u small above.
+      ap (λ o. cons_option o xs) (sym (same-held l (with_publishing place p l) refl refl refl)))
+      1 lives numbered (omega arith) tt
+      ∙ ap (λ cs. taken_after place cs (places lives))
+      (told-none (find (is_named name) (topics lives)))
+
+  taken-left : (conn : ℕ) (uid : ℤ)
+      → places (at_living (has_publisher conn uid) (λ l. or_ended place (without_publisher conn uid l)) lives)
+      ≡ taken_after place
+      (told_by (λ t. end_of (topic_without_publisher conn uid t))
+      (find (has_publisher conn uid) (topics lives))) (places lives)
+  taken-left conn uid =
+      taken-at (has_publisher conn uid) (λ l. or_ended place (without_publisher conn uid l)) place
+      (λ t. end_of (topic_without_publisher conn uid t)) (λ o. Unit {0})
+      (end-later place (topic_without_publisher conn uid) (λ t. refl))
+      (λ l xs living u small above.
+      let left = without_publisher conn uid l in
+      end-here place l left xs refl (same-held l left refl refl refl) small above)
+      1 lives numbered (omega arith) tt
+
+  taken-updated : (conn : ℕ) (name : List ℕ) (u : Data)
+      → places (at_living (is_named name) (λ l. or_ended place (with_setting place conn u l)) lives)
+      ≡ taken_after place (told_by (update_change u) (find (is_named name) (topics lives)))
+      (places lives)
+  taken-updated conn name u =
+      taken-at (is_named name) (λ l. or_ended place (with_setting place conn u l)) place (update_change u)
+      (λ o. Unit {0})
+      (end-later place (with_update u) (λ t. refl))
+      (λ l xs living h small above.
+      let left = with_setting place conn u l in
+      end-here place l left xs refl (same-held l left refl refl refl) small above)
+      1 lives numbered (omega arith) tt
+
+-- a life that begins has no value
+taken-began : (l : Life) → held_place l ≡ None → (lives : List Life)
+    → places (lives ++ l ∷ []) ≡ places lives
+taken-began l e [] = ap (λ o. cons_option o []) e
+taken-began l e (m ∷ lives) = ap (λ ts. cons_option (held_place m) ts) (taken-began l e lives)
+
+-- a message that counts does to the lives what its changes do to the places
+pub taken-said-are : (place : ℕ) (lives : List Life) (subs : Subs) (conn : ℕ) (m : Msg)
+    → IsNumberedLives 1 lives
+    → length lives ≤ last_id → 1 ≤ place → said_cause (topics lives) (length lives + 1) subs conn m ≡ None
+    → places (lives_after place lives conn m)
+    ≡ taken_after place (changes_said (topics lives) (length lives + 1) conn m) (places lives)
+taken-said-are place lives subs conn (msg.Control (Publish name uid typ props)) numbered few real e =
+    by (list_any (is_named name) (topics lives))
+  where
+    p : Pub
+    p = record { conn = conn; uid = uid; typ = typ }
+
+    new : Life
+    new = born place (length lives + 1) name typ props p
+
+    by : (b : Bool)
+        → places (cond b (at_living (is_named name) (with_publishing place p) lives) (lives ++ new ∷ []))
+        ≡ taken_after place (cond b [] (Started (pos (length lives + 1)) name typ props ∷ []))
+        (places lives)
+    by true = taken-joined place lives numbered few name p
+    by false = taken-began new refl lives
+taken-said-are place lives subs conn (msg.Control (Unpublish uid)) numbered few real e =
+    taken-left place lives numbered few conn uid
+taken-said-are place lives subs conn (msg.Control (SetProps name update)) numbered few real e =
+    taken-updated place lives numbered few conn name update
+taken-said-are place lives subs conn (msg.Control (Subscribe uid sub)) numbered few real e = refl
+taken-said-are place lives subs conn (msg.Control (Unsubscribe uid)) numbered few real e = refl
+taken-said-are place lives subs conn (msg.Put v) numbered few real e =
+    taken-put-at place lives numbered few conn v.id v.time v.value real e
+
+-- ---- the end of a connection
+
+-- ends of topics that come later leave the first place
+ends-later : (place : ℕ) (test : Topic → Bool) (k : ℕ) (lives : List Life) (x : Taken) (xs : List Taken)
+    → IsNumberedLives k lives
+    → x.topic < k → k + length lives ≤ suc last_id
+    → taken_after place (map ended (filter test (topics lives))) (x ∷ xs)
+    ≡ x ∷ taken_after place (map ended (filter test (topics lives))) xs
+ends-later place test k [] x xs n less few = refl
+ends-later place test k (l ∷ lives) x xs n less few =
+    by (λ xs. ends-later place test (suc k) lives x xs n.1 (omega arith) (omega arith)) (is_living l) xs
+  where
+    rest : List Change
+    rest = map ended (filter test (topics lives))
+
+    id : l.id ≡ k
+    id = n.0
+
+    on : ((xs : List Taken) → taken_after place rest (x ∷ xs) ≡ x ∷ taken_after place rest xs)
+        → (b : Bool) (xs : List Taken)
+        → taken_after place
+        (map ended (cond b (topic_of l ∷ filter test (topics lives)) (filter test (topics lives)))) (x ∷ xs)
+        ≡ x ∷ taken_after place
+        (map ended (cond b (topic_of l ∷ filter test (topics lives)) (filter test (topics lives)))) xs
+    on more true xs =
+        ap (λ ts. taken_after place rest ts) (ended-later place (topic_of l) x xs (omega arith) (omega arith))
+        ∙ more (taken_by place (ended (topic_of l)) xs)
+    on more false xs = more xs
+
+    by : ((xs : List Taken) → taken_after place rest (x ∷ xs) ≡ x ∷ taken_after place rest xs)
+        → (b : Bool) (xs : List Taken)
+        → taken_after place
+        (map ended (filter test (cons_option (cond b (Some (topic_of l)) None) (topics lives)))) (x ∷ xs)
+        ≡ x ∷ taken_after place
+        (map ended (filter test (cons_option (cond b (Some (topic_of l)) None) (topics lives)))) xs
+    by more true xs = on more (test (topic_of l)) xs
+    by more false xs = more xs
+
+-- the topics that end with a connection have no place any more
+pub taken-closed-are : (place conn k : ℕ) (lives : List Life) → IsNumberedLives k lives
+    → k + length lives ≤ suc last_id
+    → places (map (closed_for place conn) lives)
+    ≡ taken_after place (drop_changes (topics lives) conn) (places lives)
+taken-closed-are place conn k [] n few = refl
+taken-closed-are place conn k (l ∷ lives) n few =
+    ap (λ ts. cons_option (held_place (closed_for place conn l)) ts)
+    (taken-closed-are place conn (suc k) lives n.1 (omega arith))
+    ∙ by (is_living l) refl
+  where
+    xs : List Taken
+    xs = places lives
+
+    gone : Life
+    gone = without_conn conn l
+
+    rest : List Change
+    rest = drop_changes (topics lives) conn
+
+    id : l.id ≡ k
+    id = n.0
+
+    above : AreAbove l.id xs
+    above = above-held l.id (suc k) lives (omega arith) n.1
+
+    same : held_place gone ≡ held_place l
+    same = same-held l gone refl refl refl
+
+    pass : (o : Option Taken) → IsOf l.id o → cons_option o (taken_after place rest xs)
+        ≡ taken_after place rest (cons_option o xs)
+    pass None e = refl
+    pass (Some x) e =
+        let topic : x.topic ≡ l.id = e in
+        sym (ends-later place (λ t. not (outlives conn t)) (suc k) lives x xs n.1 (omega arith) (omega arith))
+
+    stays : cons_option (held_place gone) (taken_after place rest xs)
+        ≡ taken_after place rest (cons_option (held_place l) xs)
+    stays = ap (λ o. cons_option o (taken_after place rest xs)) same ∙ pass (held_place l) (held-of l)
+
+    on : (has lives_on : Bool)
+        → cons_option (held_place (cond has (cond lives_on gone (record gone { over = Some place })) gone))
+        (taken_after place rest xs)
+        ≡ taken_after place
+        (map ended
+        (cond (not (not has || lives_on)) (topic_of l ∷ filter (λ t. not (outlives conn t)) (topics lives))
+        (filter (λ t. not (outlives conn t)) (topics lives)))) (cons_option (held_place l) xs)
+    on true true = stays
+    on true false =
+        ap (λ o. cons_option o (taken_after place rest xs))
+        (held-over (record gone { over = Some place }) refl)
+        ∙ sym (ap (λ ts. taken_after place rest ts)
+        (ended-first place (topic_of l) (held_place l) xs (omega arith) (held-of l) above))
+    on false lives_on = stays
+
+    by : (b : Bool) → is_living l ≡ b
+        → cons_option (held_place (cond (b && has_conn conn (topic_of l)) (or_ended place gone) gone))
+        (taken_after place rest xs)
+        ≡ taken_after place (drop_changes (cons_option (cond b (Some (topic_of l)) None) (topics lives)) conn)
+        (cons_option (held_place l) xs)
+    by true e = on (has_conn conn (topic_of l)) (lives_on (topic_of gone))
+    by false e = stays

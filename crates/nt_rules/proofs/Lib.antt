@@ -1,0 +1,4 @@
+pub mod Positions
+pub mod Calls
+pub mod Search
+pub mod Sendable

@@ -1,0 +1,6 @@
+pub mod Limits
+pub mod Sorted
+pub mod topics
+pub mod meta
+pub mod outbox
+pub mod history

@@ -1,0 +1,5 @@
+-- Topics, their changes, and puts.
+pub mod Topics
+pub mod Changes
+pub mod Puts
+pub mod Apart

@@ -1,0 +1,100 @@
+use Rattle.std.proofs.Common.{◌≡◌, ◌∙◌, ℕ, ℤ, List, refl, sym, ap, subst, to_z, of_z, w64, rules}
+use Rattle.nt_values.specs.declared.value.Value.{Value}
+use Rattle.nt_topics.specs.declared.properties.Props.{Props}
+use Rattle.nt_control.specs.declared.message.ClientMsg.TheVariants.{Publish}
+use Rattle.nt_rules.specs.declared.topic.Outcome.{Outcome}
+use Rattle.nt_rules.specs.declared.act.Msg.TheVariants.{Control, Put}
+use Rattle.nt_rules.specs.topics.Topics.{TableState, if_counts, publish_cause, published, next_after, put_cause, with_put}
+use Rattle.nt_rules.specs.topics.Changes.{outcome_of, publish_changes, put_changes}
+use Rattle.nt_server.specs.View.{state_of}
+use Rattle.nt_server.proofs.Counts.{counts-same, kept-control, kept-put, said-settled}
+use Rattle.nt_server.proofs.inner.Inner.hear.Goals as goal
+
+-- what a table answers to a publish, and leaves
+record IsPublished (t new : TableState) (o : Outcome) (conn : ℕ) (uid : ℤ) (name typ : List ℕ) (props : Props) : Type 0 where
+  answer : o ≡ outcome_of (publish_cause t.topics t.next conn uid name props) (publish_changes t.topics t.next name typ props)
+  topics : new.topics ≡ if_counts (publish_cause t.topics t.next conn uid name props)
+      (published t.topics t.next name typ props (record { conn = conn; uid = uid; typ = typ })) t.topics
+  next : new.next ≡ if_counts (publish_cause t.topics t.next conn uid name props) (next_after t.topics t.next name) t.next
+
+-- and to a put
+record IsTaken (t new : TableState) (o : Outcome) (conn : ℕ) (uid : ℤ) (time : ℕ) (value : Value) : Type 0 where
+  answer : o ≡ outcome_of (put_cause t.topics conn uid time value) (put_changes t.topics conn uid time value)
+  topics : new.topics ≡ if_counts (put_cause t.topics conn uid time value) (with_put t.topics conn uid time value) t.topics
+  next : new.next ≡ t.next
+
+pub settle-requires : goal.settle-requires
+settle-requires c =
+    let t = c.args.self.now.table in
+    let uid = to_z w64 (of_z w64 c.in-Control-Publish.uid) in
+    let name = c.in_ok-name-in-Control-Publish.name in
+    let typ = c.in_ok-typ-in-Control-Publish.typ in
+    let props = c.in_ok-copy-in-Control-Publish.field-0 in
+    rw c.in-Control-Publish.is (kept-control (publish_changes t.topics t.next name typ props)
+    (published t.topics t.next name typ props (record { conn = c.args.conn; uid = uid; typ = typ }))
+    (publish_cause t.topics t.next c.args.conn uid name props) c.in-Control-Publish.field-0
+    c.in_ok-outcome-in-Control-Publish.outcome c.args.self.now c.publish.new.self c.requires.kept
+    c.in_ok-outcome-in-Control-Publish.ensures.answer c.in_ok-outcome-in-Control-Publish.ensures.topics)
+
+pub settle-requires-in-Put : goal.settle-requires-in-Put
+settle-requires-in-Put c =
+    let v = c.in-Put.v in
+    let uid = to_z w64 (of_z w64 v.id) in
+    rw c.in-Put.is (kept-put (put_cause c.args.self.now.table.topics c.args.conn uid v.time c.in_ok-copy-in-Put.field-0)
+    v c.in_ok-outcome-in-Put.outcome c.args.self.now c.put.new.self c.args.conn uid v.time c.in_ok-copy-in-Put.field-0
+    c.requires.kept c.in_ok-outcome-in-Put.ensures.topics)
+
+pub returns-in_ok-outcome-in-Control-Publish-clause-state : goal.returns-in_ok-outcome-in-Control-Publish-clause-state
+returns-in_ok-outcome-in-Control-Publish-clause-state c =
+    let uid = c.in-Control-Publish.uid in
+    let name = c.in-Control-Publish.name in
+    let typ = c.in-Control-Publish.typ in
+    let props = c.in-Control-Publish.props in
+    let t = c.args.self.now.table in
+    let new : TableState = c.publish.new.self in
+    let o = c.in_ok-outcome-in-Control-Publish.outcome in
+    let conn = c.args.conn in
+    let is : c.args.msg.now ≡ Control (Publish name uid typ props) = search rules in
+    let same : to_z w64 (of_z w64 uid) ≡ uid = search rules in
+    let told : IsPublished t new o conn (to_z w64 (of_z w64 uid)) c.in_ok-name-in-Control-Publish.name
+    c.in_ok-typ-in-Control-Publish.typ c.in_ok-copy-in-Control-Publish.field-0 =
+    record {
+      answer = c.in_ok-outcome-in-Control-Publish.ensures.answer;
+      topics = c.in_ok-outcome-in-Control-Publish.ensures.topics;
+      next = c.in_ok-outcome-in-Control-Publish.ensures.next;
+    } in
+    let all : IsPublished t new o conn uid name typ props =
+    subst (λ u. IsPublished t new o conn u name typ props) same (
+    subst (λ n. IsPublished t new o conn (to_z w64 (of_z w64 uid)) n typ props) c.in_ok-name-in-Control-Publish.ensures (
+    subst (λ k. IsPublished t new o conn (to_z w64 (of_z w64 uid)) c.in_ok-name-in-Control-Publish.name k props)
+    c.in_ok-typ-in-Control-Publish.ensures (
+    subst (λ p. IsPublished t new o conn (to_z w64 (of_z w64 uid)) c.in_ok-name-in-Control-Publish.name
+    c.in_ok-typ-in-Control-Publish.typ p) c.in_ok-copy-in-Control-Publish.ensures told))) in
+    said-settled c.settle.result (publish_cause t.topics t.next conn uid name props) (state_of c.args.self.now)
+    (state_of c.settle.new.self) new c.args.self.now.metas c.args.worker c.args.place conn c.args.msg.now o
+    c.in-Some.ensures.served (rw is refl) (rw is refl) c.requires.kept.metas_are (rw is all.answer) (rw is all.topics)
+    (rw is all.next) c.settle.ensures.state
+
+pub returns-in_ok-outcome-in-Put-clause-state : goal.returns-in_ok-outcome-in-Put-clause-state
+returns-in_ok-outcome-in-Put-clause-state c =
+    let v = c.in-Put.v in
+    let t = c.args.self.now.table in
+    let new : TableState = c.put.new.self in
+    let o = c.in_ok-outcome-in-Put.outcome in
+    let conn = c.args.conn in
+    let is : c.args.msg.now ≡ Put v = c.in-Put.is in
+    let same : to_z w64 (of_z w64 v.id) ≡ v.id = search rules in
+    let told : IsTaken t new o conn (to_z w64 (of_z w64 v.id)) v.time c.in_ok-copy-in-Put.field-0 =
+    record {
+      answer = c.in_ok-outcome-in-Put.ensures.answer;
+      topics = c.in_ok-outcome-in-Put.ensures.topics;
+      next = c.in_ok-outcome-in-Put.ensures.next;
+    } in
+    let all : IsTaken t new o conn v.id v.time v.value =
+    subst (λ u. IsTaken t new o conn u v.time v.value) same (
+    subst (λ w. IsTaken t new o conn (to_z w64 (of_z w64 v.id)) v.time w) c.in_ok-copy-in-Put.ensures told) in
+    let cause = put_cause t.topics conn v.id v.time v.value in
+    said-settled c.settle-in-Put.result cause (state_of c.args.self.now) (state_of c.settle-in-Put.new.self) new
+    c.args.self.now.metas c.args.worker c.args.place conn c.args.msg.now o c.in-Some.ensures.served
+    (rw is refl) (rw is refl) c.requires.kept.metas_are (rw is all.answer) (rw is all.topics)
+    (rw is (all.next ∙ sym (counts-same cause t.next))) c.settle-in-Put.ensures.state

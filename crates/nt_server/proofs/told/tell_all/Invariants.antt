@@ -1,9 +1,0 @@
-use Rattle.std.proofs.Common.{◌≡◌, ◌++◌, drop, take, map}
-use Rattle.nt_history.specs.State.{told_changes}
-use Rattle.nt_server.proofs.told.tell_all.Given as goal
-
--- the connections passed were told, and the others are to be
-abbrev pub invariant-loop-client : goal.invariant-loop-client
-invariant-loop-client l =
-    take l.client-index l.opens ++ map (told_changes l.place l.changes) (drop l.client-index l.opens)
-    ≡ map (told_changes l.place l.changes) l.fn.opens

@@ -1,0 +1,13 @@
+//! Worked rows of the server: whole runs of acts.
+#![tactic(auto)]
+
+#[cfg(test)]
+mod large;
+#[cfg(test)]
+mod rows;
+#[cfg(test)]
+mod saved;
+#[cfg(test)]
+mod saved_tests;
+#[cfg(test)]
+mod tests;
