@@ -90,6 +90,34 @@ fn tools_name_their_file(rt: HostRuntime) -> Result<(), Fail> {
 }
 
 #[test]
+fn failed_calls_end_with_4(rt: HostRuntime) -> Result<(), Fail> {
+    let alloc = rt.alloc();
+    let rows: [(&[u64], &[u64], &str); 3] = [
+        (&[0], &[], "the first read"),
+        (&[1], &[], "the second read"),
+        (&[], &[0], "the first write"),
+    ];
+    for command in ["check", "show"] {
+        for (source_fails, out_fails, why) in &rows {
+            let log: [&[u8]; 2] = [&HEADER, &START];
+            assert!(rt;
+                prints(
+                    alloc,
+                    &[command, "log"],
+                    &log,
+                    source_fails,
+                    out_fails,
+                    "",
+                    4
+                )?,
+                "{command}: {why}"
+            );
+        }
+    }
+    Ok(())
+}
+
+#[test]
 fn show_stops_where_a_later_write_fails(rt: HostRuntime) -> Result<(), Fail> {
     let alloc = rt.alloc();
     let words = strings(alloc, &["show", "log"])?;
