@@ -89,7 +89,7 @@ pub fn parse_often(alloc: Global, times: u64) -> Result<u64, AllocError> {
     Ok(arrays)
 }
 
-/// Whether a text is an array. It fails for want of memory alone.
+/// Whether a text is an array.
 fn is_array(alloc: Global, text: &[u8]) -> Result<bool, AllocError> {
     match Value::from_slice(alloc, text) {
         Ok(tree) => Ok(tree.is_array()),

@@ -36,7 +36,9 @@ all_agree (suc n) = agrees n && all_agree n
 -- an ASCII byte is escaped exactly where the set says so
 escapes-ascii : (b : ℕ) → b < 128 → is_escaped b ≡ should_percent_encode ESCAPED b
 unfolding should_percent_encode
-escapes-ascii b low = same-is (is_escaped b) (should_percent_encode ESCAPED b) ((Decides-below_and agrees (λ k. agrees k ≡ true) all_agree (λ k. (λ h. h, λ h. h)) refl (λ n. refl) 128).0 refl b low)
+escapes-ascii b low = same-is (is_escaped b) (should_percent_encode ESCAPED b)
+    ((Decides-below_and agrees (λ k. agrees k ≡ true) all_agree (λ k. (λ h. h, λ h. h)) refl (λ n. refl) 128).0 refl b
+    low)
 
 -- and so is each other
 escapes-past : (b : ℕ) → 128 ≤ b → is_escaped b ≡ should_percent_encode ESCAPED b
@@ -63,7 +65,8 @@ encoded-is [] small = refl
 encoded-is (b ∷ bs) small = rw (encode-is b (All-head IsByte b bs small), encoded-is bs (All-tail IsByte b bs small))
 
 -- the same, where each byte is known by its index
-pub encoded : (bytes : List ℕ) → ((i : ℕ) → i < length bytes → get_or bytes i 0 < 256) → percent_encode ESCAPED bytes ≡ escaped bytes
+pub encoded : (bytes : List ℕ) → ((i : ℕ) → i < length bytes → get_or bytes i 0 < 256)
+    → percent_encode ESCAPED bytes ≡ escaped bytes
 encoded bytes small = encoded-is bytes (All-from_get_or IsByte bytes 0 small)
 
 -- texts that differ are told apart

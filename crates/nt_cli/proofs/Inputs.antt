@@ -11,8 +11,10 @@ pub record ReadsSoFar (before now : Option (List ℕ)) (bytes : List ℕ) : Type
   pub within : length bytes ≤ most_bytes
 
 -- bytes within the limit, and a piece that passes it
-pub too_many : (before mid now : Option (List ℕ)) (bytes piece : List ℕ) (count : ℕ) → Consumes before mid bytes → Consumes mid now piece
-    → count ≡ length piece → count ≤ piece_bytes → length bytes ≤ most_bytes → most_bytes < length bytes + count → ReadsTooMany before now
+pub too_many : (before mid now : Option (List ℕ)) (bytes piece : List ℕ) (count : ℕ) → Consumes before mid bytes
+    → Consumes mid now piece
+    → count ≡ length piece → count ≤ piece_bytes → length bytes ≤ most_bytes → most_bytes < length bytes + count
+    → ReadsTooMany before now
 too_many before mid now bytes piece count first second count_is most within beyond = record {
   bytes = bytes ++ piece;
   taken = Consumes-trans before mid now bytes piece first second;

@@ -60,7 +60,8 @@ none_before_first : (lines : List (List ℕ)) → lines ≡ all_before_first [] 
 none_before_first [] = refl
 none_before_first (line ∷ lines) = refl
 
-one_more : (b : ℕ) (prefix : List ℕ) (lines : List (List ℕ)) → before_first b (all_before_first prefix lines) ≡ all_before_first (b ∷ prefix) lines
+one_more : (b : ℕ) (prefix : List ℕ) (lines : List (List ℕ)) → before_first b (all_before_first prefix lines)
+    ≡ all_before_first (b ∷ prefix) lines
 one_more b prefix [] = refl
 one_more b prefix (line ∷ lines) = refl
 
@@ -73,7 +74,8 @@ with_byte b [] = refl
 with_byte b (line ∷ lines) = refl
 
 -- the whole lines of bytes without a line feed, and more
-pub whole_lines-append : (prefix xs : List ℕ) → IsUnbroken prefix → whole_lines (prefix ++ xs) ≡ all_before_first prefix (whole_lines xs)
+pub whole_lines-append : (prefix xs : List ℕ) → IsUnbroken prefix
+    → whole_lines (prefix ++ xs) ≡ all_before_first prefix (whole_lines xs)
 whole_lines-append [] xs h = none_before_first (whole_lines xs)
 whole_lines-append (b ∷ prefix) xs h =
     let parts = neither _ _ h in
@@ -85,16 +87,19 @@ last_alone : (xs : List ℕ) → is_empty (whole_lines xs) ≡ true → last_lin
 last_alone [] h = refl
 last_alone (b ∷ xs) h = by (is_feed b) refl
   where
-    in_line : (e : Bool) → is_empty (whole_lines xs) ≡ e → is_empty (before_first b (whole_lines xs)) ≡ true → cond e (b ∷ xs) (last_line xs) ≡ b ∷ xs
+    in_line : (e : Bool) → is_empty (whole_lines xs) ≡ e → is_empty (before_first b (whole_lines xs)) ≡ true
+        → cond e (b ∷ xs) (last_line xs) ≡ b ∷ xs
     in_line true is all = refl
     in_line false is all = absurd (true≢false (sym all ∙ with_byte b (whole_lines xs) ∙ is))
 
-    by : (f : Bool) → is_feed b ≡ f → cond f (last_line xs) (cond (is_empty (whole_lines xs)) (b ∷ xs) (last_line xs)) ≡ b ∷ xs
+    by : (f : Bool) → is_feed b ≡ f → cond f (last_line xs) (cond (is_empty (whole_lines xs)) (b ∷ xs) (last_line xs))
+        ≡ b ∷ xs
     by true is = absurd (true≢false (sym (rw is at h)))
     by false is = in_line _ refl (rw is at h)
 
 -- and what is after the last line feed of bytes without one, and more
-pub last_line-append : (prefix xs : List ℕ) → IsUnbroken prefix → last_line (prefix ++ xs) ≡ cond (is_empty (whole_lines xs)) (prefix ++ xs) (last_line xs)
+pub last_line-append : (prefix xs : List ℕ) → IsUnbroken prefix
+    → last_line (prefix ++ xs) ≡ cond (is_empty (whole_lines xs)) (prefix ++ xs) (last_line xs)
 last_line-append [] xs h = by _ refl
   where
     by : (e : Bool) → is_empty (whole_lines xs) ≡ e → last_line xs ≡ cond e xs (last_line xs)
@@ -103,10 +108,12 @@ last_line-append [] xs h = by _ refl
 last_line-append (b ∷ prefix) xs h =
     let parts = neither _ _ h in
     let here : is_feed b ≡ false = parts.0 in
-    let same : is_empty (whole_lines (prefix ++ xs)) ≡ is_empty (whole_lines xs) = ap is_empty (whole_lines-append prefix xs parts.1) ∙ as_empty prefix (whole_lines xs) in
+    let same : is_empty (whole_lines (prefix ++ xs)) ≡ is_empty (whole_lines xs) =
+    ap is_empty (whole_lines-append prefix xs parts.1) ∙ as_empty prefix (whole_lines xs) in
     rw (here, same, last_line-append prefix xs parts.1) (by (is_empty (whole_lines xs)))
   where
-    by : (e : Bool) → cond e (b ∷ (prefix ++ xs)) (cond e (prefix ++ xs) (last_line xs)) ≡ cond e (b ∷ (prefix ++ xs)) (last_line xs)
+    by : (e : Bool) → cond e (b ∷ (prefix ++ xs)) (cond e (prefix ++ xs) (last_line xs))
+        ≡ cond e (b ∷ (prefix ++ xs)) (last_line xs)
     by true = refl
     by false = refl
 
@@ -120,10 +127,13 @@ last_line-unbroken xs h = last_alone xs (ap is_empty (whole_lines-unbroken xs h)
 -- ---- a part of a list from a place to another
 
 -- the part without its first bytes
-pub part-advanced : (xs : List ℕ) (at end count : ℕ) → at ≤ end → end ≤ length xs → count ≤ length (take (end - at) (drop at xs))
+pub part-advanced : (xs : List ℕ) (at end count : ℕ) → at ≤ end → end ≤ length xs
+    → count ≤ length (take (end - at) (drop at xs))
     → take (end - (at + count)) (drop (at + count) xs) ≡ drop count (take (end - at) (drop at xs))
 part-advanced xs at end count le within below =
-    let len : length (take (end - at) (drop at xs)) ≡ end - at = length-take-le (end - at) (drop at xs) (omega (arith, length-drop at xs)) in
+    let len : length (take (end - at) (drop at xs)) ≡ end - at =
+    length-take-le (end - at) (drop at xs) (omega (arith, length-drop at xs)) in
     let rest = end - (at + count) in
     let whole : count + rest ≡ end - at = omega arith in
-    ap (take rest) (sym (drop-drop count at xs)) ∙ sym (drop-take count rest (drop at xs)) ∙ ap (λ (k : ℕ). drop count (take k (drop at xs))) whole
+    ap (take rest) (sym (drop-drop count at xs)) ∙ sym (drop-take count rest (drop at xs))
+    ∙ ap (λ (k : ℕ). drop count (take k (drop at xs))) whole

@@ -24,33 +24,42 @@ frame-fit : (ms : List ValueMsg) (bytes : List ℕ) → IsFrame most_value ms by
 frame-fit [] bytes f = tt
 frame-fit (m ∷ ms) bytes f = ((ltb-true m.time (2 ^ 63) f.3.lawful.time_is, f.4), frame-fit ms f.1 f.5)
 
-puts-fit : (bytes : List ℕ) (ms : List ValueMsg) (fault : Option FrameFault) → Means most_value bytes ms fault → AllByRecursion IsPut (map Put ms)
+puts-fit : (bytes : List ℕ) (ms : List ValueMsg) (fault : Option FrameFault) → Means most_value bytes ms fault
+    → AllByRecursion IsPut (map Put ms)
 puts-fit bytes ms None m = frame-fit ms bytes m
 puts-fit bytes ms (Some fault) m = frame-fit ms m.0 m.3
 
 -- ---- what a line says
 
 -- there is one is_decoding
-pub decoded-values : {V E : Type 0} (of : V → List Msg) (r : Result V E) (decode : Decoding) (text bytes : List ℕ) (values : List ValueMsg) → IsDecoding decode → Some bytes ≡ hex_bytes text
+pub decoded-values : {V E : Type 0} (of : V → List Msg) (r : Result V E) (decode : Decoding) (text bytes : List ℕ)
+    (values : List ValueMsg) → IsDecoding decode → Some bytes ≡ hex_bytes text
     → ((ms : List ValueMsg) (fault : Option FrameFault) → Means most_value bytes ms fault → ms ≡ values)
     → IfOk r (λ v. of v ≡ map Put values) → IfOk r (λ v. of v ≡ map Put (values_in decode (hex_bytes text)))
 decoded-values of (Ok v) decode text bytes values is_decoding spelled only h =
     let m = is_decoding bytes in
-    h ∙ ap (λ (vs : List ValueMsg). map Put vs) (sym (only (decode bytes) m.0 m.1)) ∙ ap (λ (o : Option (List ℕ)). map Put (values_in decode o)) spelled
+    h ∙ ap (λ (vs : List ValueMsg). map Put vs) (sym (only (decode bytes) m.0 m.1))
+    ∙ ap (λ (o : Option (List ℕ)). map Put (values_in decode o)) spelled
 decoded-values of (Err e) decode text bytes values is_decoding spelled only h = tt
 
-pub values-fit : {V E : Type 0} (of : V → List Msg) (r : Result V E) (bytes : List ℕ) (values : List ValueMsg) (fault : Option FrameFault) → Means most_value bytes values fault
+pub values-fit : {V E : Type 0} (of : V → List Msg) (r : Result V E) (bytes : List ℕ) (values : List ValueMsg)
+    (fault : Option FrameFault) → Means most_value bytes values fault
     → IfOk r (λ v. of v ≡ map Put values) → IfOk r (λ v. AllByRecursion IsPut (of v))
-values-fit of (Ok v) bytes values fault means h = subst (λ (ms : List Msg). AllByRecursion IsPut ms) (sym h) (puts-fit bytes values fault means)
+values-fit of (Ok v) bytes values fault means h = subst (λ (ms : List Msg). AllByRecursion IsPut ms) (sym h)
+    (puts-fit bytes values fault means)
 values-fit of (Err e) bytes values fault means h = tt
 
-pub messages-binary : {V E : Type 0} (of : V → List Msg) (r : Result V E) (decode : Decoding) (line digits : List ℕ) → is_binary line ≡ true → digits ≡ digits_in line
-    → IfOk r (λ v. of v ≡ map Put (values_in decode (hex_bytes digits))) → IfOk r (λ v. of v ≡ line_messages decode line)
+pub messages-binary : {V E : Type 0} (of : V → List Msg) (r : Result V E) (decode : Decoding) (line digits : List ℕ)
+    → is_binary line ≡ true → digits ≡ digits_in line
+    → IfOk r (λ v. of v ≡ map Put (values_in decode (hex_bytes digits)))
+    → IfOk r (λ v. of v ≡ line_messages decode line)
 unfolding line_messages
-messages-binary of (Ok v) decode line digits is digits_are h = rw is (h ∙ ap (λ (l : List ℕ). map Put (values_in decode (hex_bytes l))) digits_are)
+messages-binary of (Ok v) decode line digits is digits_are h =
+    rw is (h ∙ ap (λ (l : List ℕ). map Put (values_in decode (hex_bytes l))) digits_are)
 messages-binary of (Err e) decode line digits is digits_are h = tt
 
-pub messages-text : {V E : Type 0} (of : V → List Msg) (r : Result V E) (decode : Decoding) (line : List ℕ) → is_binary line ≡ false
+pub messages-text : {V E : Type 0} (of : V → List Msg) (r : Result V E) (decode : Decoding) (line : List ℕ)
+    → is_binary line ≡ false
     → IfOk r (λ v. of v ≡ map Control (said_in line)) → IfOk r (λ v. of v ≡ line_messages decode line)
 unfolding line_messages
 messages-text of (Ok v) decode line is h = rw is h

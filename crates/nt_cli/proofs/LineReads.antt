@@ -32,18 +32,24 @@ feeds bytes room count found =
       there = there;
       prefix = prefix;
       unbroken = subst IsUnbroken prefix (unbroken-before (take room bytes) count found);
-      whole = sym (take-append-drop count bytes) ∙ ap (λ (l : List ℕ). take count bytes ++ l) (drop_more bytes count 0 there ∙ ap (λ (b : ℕ). b ∷ drop (count + 1) bytes) here);
+      whole = sym (take-append-drop count bytes) ∙ ap (λ (l : List ℕ). take count bytes ++ l)
+          (drop_more bytes count 0 there ∙ ap (λ (b : ℕ). b ∷ drop (count + 1) bytes) here);
     }
 
 -- a line up to its line feed was gathered
-pub gathers-feed : (bytes : List ℕ) (room count : ℕ) (before now : List ℕ) → Feeds bytes room count → now ≡ before ++ take count (take room bytes)
-    → Gathers (record { bytes = bytes; room = room }) (record { bytes = drop (count + 1) bytes; room = room - (count + 1) }) before now (10 ∷ [])
+pub gathers-feed : (bytes : List ℕ) (room count : ℕ) (before now : List ℕ) → Feeds bytes room count
+    → now ≡ before ++ take count (take room bytes)
+    → Gathers (record {
+      bytes = bytes;
+      room = room;
+    }) (record { bytes = drop (count + 1) bytes; room = room - (count + 1) }) before now (10 ∷ [])
 gathers-feed bytes room count before now f line = record {
   part = take count bytes;
   line = line ∙ ap (λ (l : List ℕ). before ++ l) f.prefix;
   gives = record {
     whole = append-nil bytes ∙ f.whole;
-    room = let len : length (take count bytes) ≡ count = length-take-le count bytes (omega (arith, f.there)) in let below = f.below in omega arith;
+    room = let len : length (take count bytes) ≡ count = length-take-le count bytes (omega (arith, f.there)) in let
+        below = f.below in omega arith;
     unbroken = f.unbroken;
   };
 }
@@ -52,15 +58,20 @@ own-prefix : (bytes : List ℕ) (room : ℕ) → take (length (take room bytes))
 own-prefix bytes room = ap (λ (n : ℕ). take n bytes) (length-take room bytes) ∙ take_min room bytes
 
 -- all that is ahead within the room was gathered, where there is no line feed
-pub gathers-all : (bytes : List ℕ) (room : ℕ) (before now : List ℕ) → position is_feed (take room bytes) ≡ None → now ≡ before ++ take room bytes
-    → Gathers (record { bytes = bytes; room = room }) (record { bytes = drop (length (take room bytes)) bytes; room = room - length (take room bytes) }) before now []
+pub gathers-all : (bytes : List ℕ) (room : ℕ) (before now : List ℕ) → position is_feed (take room bytes) ≡ None
+    → now ≡ before ++ take room bytes
+    → Gathers (record {
+      bytes = bytes;
+      room = room;
+    }) (record { bytes = drop (length (take room bytes)) bytes; room = room - length (take room bytes) }) before now []
 gathers-all bytes room before now none line =
     let len : length (take room bytes) ≡ min room (length bytes) = length-take room bytes in
     record {
       part = take room bytes;
       line = line;
       gives = record {
-        whole = append-nil bytes ∙ sym (take-append-drop (length (take room bytes)) bytes) ∙ ap (λ (l : List ℕ). l ++ drop (length (take room bytes)) bytes) (own-prefix bytes room);
+        whole = append-nil bytes ∙ sym (take-append-drop (length (take room bytes)) bytes)
+            ∙ ap (λ (l : List ℕ). l ++ drop (length (take room bytes)) bytes) (own-prefix bytes room);
         room = omega arith;
         unbroken = unbroken-none (take room bytes) none;
       };
@@ -68,20 +79,25 @@ gathers-all bytes room before now none line =
 
 -- a line is too long by what stands before the line feed
 pub too_long-feed : (bytes : List ℕ) (room count : ℕ) (before now : List ℕ) → Feeds bytes room count → now ≡ before
-    → most_line < length before + length (take count (take room bytes)) → IsTooLong now (record { bytes = bytes; room = room })
+    → most_line < length before + length (take count (take room bytes)) → IsTooLong now (record {
+      bytes = bytes;
+      room = room;
+    })
 too_long-feed bytes room count before now f same long = record {
   count = count;
   there = let there = f.there in omega arith;
   within = let below = f.below in omega arith;
   unbroken = f.unbroken;
   beyond =
-      let len : length (take count (take room bytes)) ≡ count = ap length f.prefix ∙ length-take-le count bytes (omega (arith, f.there)) in
+      let len : length (take count (take room bytes)) ≡ count = ap length f.prefix
+      ∙ length-take-le count bytes (omega (arith, f.there)) in
       let line : length now ≡ length before = ap length same in
       omega arith;
 }
 
 -- or by all that is ahead within the room
-pub too_long-all : (bytes : List ℕ) (room : ℕ) (before now : List ℕ) → position is_feed (take room bytes) ≡ None → now ≡ before
+pub too_long-all : (bytes : List ℕ) (room : ℕ) (before now : List ℕ) → position is_feed (take room bytes) ≡ None
+    → now ≡ before
     → most_line < length before + length (take room bytes) → IsTooLong now (record { bytes = bytes; room = room })
 too_long-all bytes room before now none same long =
     let len : length (take room bytes) ≡ min room (length bytes) = length-take room bytes in
@@ -94,10 +110,12 @@ too_long-all bytes room before now none same long =
     }
 
 -- where bytes are left after the room, it was filled
-pub room_filled : (bytes : List ℕ) (room : ℕ) → 0 < length (drop (length (take room bytes)) bytes) → room - length (take room bytes) ≡ 0
+pub room_filled : (bytes : List ℕ) (room : ℕ) → 0 < length (drop (length (take room bytes)) bytes)
+    → room - length (take room bytes) ≡ 0
 room_filled bytes room some =
     let len : length (take room bytes) ≡ min room (length bytes) = length-take room bytes in
-    let left : length (drop (length (take room bytes)) bytes) ≡ length bytes - length (take room bytes) = length-drop (length (take room bytes)) bytes in
+    let left : length (drop (length (take room bytes)) bytes) ≡ length bytes - length (take room bytes) =
+    length-drop (length (take room bytes)) bytes in
     omega arith
 
 -- an error that was handed on
@@ -117,7 +135,8 @@ reads-none before old = record {
 }
 
 -- a part was gathered after a line so far
-pub reads-part : (before now : Option (List ℕ)) (old mid new : Ahead) (line more feed : List ℕ) → Reads before now old mid line [] → Gathers mid new line more feed → length more ≤ most_line
+pub reads-part : (before now : Option (List ℕ)) (old mid new : Ahead) (line more feed : List ℕ)
+    → Reads before now old mid line [] → Gathers mid new line more feed → length more ≤ most_line
     → Reads before now old new more feed
 reads-part before now old mid new line more feed r g short =
     let rest = feed ++ new.bytes in
@@ -127,7 +146,8 @@ reads-part before now old mid new line more feed r g short =
       taken = r.taken;
       consumes = r.consumes;
       gives = record {
-        whole = r.gives.whole ∙ ap (λ (l : List ℕ). line ++ l) ahead ∙ sym (append_assoc line g.part rest) ∙ ap (λ (l : List ℕ). l ++ rest) (sym g.line);
+        whole = r.gives.whole ∙ ap (λ (l : List ℕ). line ++ l) ahead ∙ sym (append_assoc line g.part rest)
+            ∙ ap (λ (l : List ℕ). l ++ rest) (sym g.line);
         room = omega (arith, r.gives.room, g.gives.room);
         unbroken = subst IsUnbroken (sym g.line) (unbroken-append line g.part r.gives.unbroken g.gives.unbroken);
       };
@@ -135,13 +155,15 @@ reads-part before now old mid new line more feed r g short =
     }
 
 -- what is read where nothing is ahead
-pub reads-on : (before mid now : Option (List ℕ)) (old empty new : Ahead) (line : List ℕ) → Reads before mid old empty line [] → empty.bytes ≡ [] → Consumes mid now new.bytes
+pub reads-on : (before mid now : Option (List ℕ)) (old empty new : Ahead) (line : List ℕ)
+    → Reads before mid old empty line [] → empty.bytes ≡ [] → Consumes mid now new.bytes
     → new.room ≡ empty.room → Reads before now old new line []
 reads-on before mid now old empty new line r none consumes room = record {
   taken = r.taken ++ new.bytes;
   consumes = Consumes-trans before mid now r.taken new.bytes r.consumes consumes;
   gives = record {
-    whole = sym (append_assoc old.bytes r.taken new.bytes) ∙ ap (λ (l : List ℕ). l ++ new.bytes) (r.gives.whole ∙ ap (λ (l : List ℕ). line ++ l) none ∙ append-nil line);
+    whole = sym (append_assoc old.bytes r.taken new.bytes) ∙ ap (λ (l : List ℕ). l ++ new.bytes)
+        (r.gives.whole ∙ ap (λ (l : List ℕ). line ++ l) none ∙ append-nil line);
     room = omega (arith, r.gives.room);
     unbroken = r.gives.unbroken;
   };

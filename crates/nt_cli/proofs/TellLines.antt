@@ -44,8 +44,10 @@ one-part b other = All-cons (λ b. b ≢ 32) b [] other (All-nil (λ b. b ≢ 32
 
 -- a number has none
 decimal-part : (n : ℕ) → n < 2 ^ 64 → HasNoSpace (decimal n)
-decimal-part n small = decimal_by_steps (λ n ds. HasNoSpace ds) (λ n digit. one-part (48 + n) (λ e. absurd (omega arith)))
-    (λ n ds big part. All-append (λ b. b ≢ 32) ds ((48 + n % 10) ∷ []) part (one-part (48 + n % 10) (λ e. absurd (omega arith)))) n small
+decimal-part n small = decimal_by_steps (λ n ds. HasNoSpace ds)
+    (λ n digit. one-part (48 + n) (λ e. absurd (omega arith)))
+    (λ n ds big part. All-append (λ b. b ≢ 32) ds ((48 + n % 10) ∷ []) part
+    (one-part (48 + n % 10) (λ e. absurd (omega arith)))) n small
 
 -- a digit is none
 glyph-part : (d : ℕ) → digit_glyph true d ≡ 32 → ⊥
@@ -53,8 +55,10 @@ glyph-part d e = grind (arith, nat_tests)
 
 -- what a byte becomes has none
 byte-part : (b : ℕ) (t : Bool) → is_escaped b ≡ t → HasNoSpace (if t then escape b else b ∷ [])
-byte-part b true e = All-cons (λ b. b ≢ 32) 37 (digit_glyph true (b / 16) ∷ digit_glyph true (b % 16) ∷ []) (λ e. absurd (omega arith))
-    (All-cons (λ b. b ≢ 32) (digit_glyph true (b / 16)) (digit_glyph true (b % 16) ∷ []) (glyph-part (b / 16)) (one-part (digit_glyph true (b % 16)) (glyph-part (b % 16))))
+byte-part b true e = All-cons (λ b. b ≢ 32) 37 (digit_glyph true (b / 16) ∷ digit_glyph true (b % 16) ∷ [])
+    (λ e. absurd (omega arith))
+    (All-cons (λ b. b ≢ 32) (digit_glyph true (b / 16)) (digit_glyph true (b % 16) ∷ []) (glyph-part (b / 16))
+    (one-part (digit_glyph true (b % 16)) (glyph-part (b % 16))))
 byte-part b false e = one-part b (kept b e) where
   kept : (b : ℕ) → is_escaped b ≡ false → b ≡ 32 → ⊥
   kept b e same = grind (arith, nat_tests)
@@ -62,14 +66,16 @@ byte-part b false e = one-part b (kept b e) where
 -- a text with its escapes has none
 escaped-part : (text : List ℕ) → HasNoSpace (escaped text)
 escaped-part [] = All-nil (λ b. b ≢ 32)
-escaped-part (b ∷ bs) = All-append (λ b. b ≢ 32) (if is_escaped b then escape b else b ∷ []) (escaped bs) (byte-part b (is_escaped b) refl) (escaped-part bs)
+escaped-part (b ∷ bs) = All-append (λ b. b ≢ 32) (if is_escaped b then escape b else b ∷ []) (escaped bs)
+    (byte-part b (is_escaped b) refl) (escaped-part bs)
 
 -- a field has none
 field-part : (text : List ℕ) → HasNoSpace (field text)
 field-part text = by_tests (bytes_eq text []) (bytes_eq text (codes "-")) where
   by_tests : (s t : Bool) → HasNoSpace (if s then codes "-" else if t then codes "%2D" else escaped text)
   by_tests true t = one-part 45 (λ e. absurd (omega arith))
-  by_tests false true = All-cons (λ b. b ≢ 32) 37 (50 ∷ 68 ∷ []) (λ e. absurd (omega arith)) (All-cons (λ b. b ≢ 32) 50 (68 ∷ []) (λ e. absurd (omega arith)) (one-part 68 (λ e. absurd (omega arith))))
+  by_tests false true = All-cons (λ b. b ≢ 32) 37 (50 ∷ 68 ∷ []) (λ e. absurd (omega arith))
+      (All-cons (λ b. b ≢ 32) 50 (68 ∷ []) (λ e. absurd (omega arith)) (one-part 68 (λ e. absurd (omega arith))))
   by_tests false false = escaped-part text
 
 -- ---- a field tells its text
@@ -103,14 +109,16 @@ read-field text small = by_empty (bytes_eq text []) refl where
       let same : text ≡ codes "-" = (bytes_eq-Decides text (codes "-")).0 e in
       ap (λ (w : List ℕ). read (field w)) same ∙ dash-escaped ∙ sym same
   by_dash filled false e =
-      let differs : text ≡ codes "-" → ⊥ = λ same. absurd (let yes = (bytes_eq-Decides text (codes "-")).1 same in let no = e in cc) in
+      let differs : text ≡ codes "-" → ⊥ = λ same. absurd (let yes =
+      (bytes_eq-Decides text (codes "-")).1 same in let no = e in cc) in
       rw (not-equal text [] filled, e, not-equal (escaped text) (codes "-") (other differs)) (read-escaped text small)
 
   by_empty : (t : Bool) → bytes_eq text [] ≡ t → read (field text) ≡ text
   by_empty true e =
       let same : text ≡ [] = (bytes_eq-Decides text []).0 e in
       ap (λ (w : List ℕ). read (field w)) same ∙ sym same
-  by_empty false e = by_dash (λ same. absurd (let yes = (bytes_eq-Decides text []).1 same in let no = e in cc)) (bytes_eq text (codes "-")) refl
+  by_empty false e = by_dash (λ same. absurd (let yes = (bytes_eq-Decides text []).1 same in let no = e in cc))
+      (bytes_eq text (codes "-")) refl
 
 -- texts with the same field are equal
 field-one : (a b : List ℕ) → All IsByte a → All IsByte b → field a ≡ field b → a ≡ b
@@ -125,10 +133,13 @@ int64-size (negsuc n) small = small
 
 -- after the time and the id of a line stands the rest
 head-split : (time id time' id' : ℕ) (us vs : List ℕ) → time < 2 ^ 64 → id < 2 ^ 64 → time' < 2 ^ 64 → id' < 2 ^ 64
-    → (decimal time ++ (32 ∷ decimal id)) ++ 32 ∷ us ≡ (decimal time' ++ (32 ∷ decimal id')) ++ 32 ∷ vs → (time ≡ time') × (id ≡ id') × (us ≡ vs)
+    → (decimal time ++ (32 ∷ decimal id)) ++ 32 ∷ us ≡ (decimal time' ++ (32 ∷ decimal id')) ++ 32 ∷ vs
+    → (time ≡ time') × (id ≡ id') × (us ≡ vs)
 head-split time id time' id' us vs t i t' i' e =
-    let first = split (decimal time) (decimal time') (decimal id ++ 32 ∷ us) (decimal id' ++ 32 ∷ vs) (decimal-part time t) (decimal-part time' t')
-    (sym (append_assoc (decimal time) (32 ∷ decimal id) (32 ∷ us)) ∙ e ∙ append_assoc (decimal time') (32 ∷ decimal id') (32 ∷ vs)) in
+    let first = split (decimal time) (decimal time') (decimal id ++ 32 ∷ us) (decimal id' ++ 32 ∷ vs)
+    (decimal-part time t) (decimal-part time' t')
+    (sym (append_assoc (decimal time) (32 ∷ decimal id) (32 ∷ us)) ∙ e
+    ∙ append_assoc (decimal time') (32 ∷ decimal id') (32 ∷ vs)) in
     let second = split (decimal id) (decimal id') us vs (decimal-part id i) (decimal-part id' i') first.1 in
     (decimal_injective time time' t t' first.0, decimal_injective id id' i i' second.0, second.1)
 
@@ -139,7 +150,8 @@ apart x y us vs differ e = differ (let same : x ≡ y = cc in same)
 -- items with the same line are equal
 pub line-one : (a b : LogItem) → FitsItsTypes a → FitsItsTypes b → item_line a ≡ item_line b → a ≡ b
 line-one (Start time id name typ meta) (Start time' id' name' typ' meta') p q e =
-    let tail : (decimal time ++ (32 ∷ decimal id)) ++ 32 ∷ (field name ++ 32 ∷ (field typ ++ 32 ∷ field meta)) ≡ (decimal time' ++ (32 ∷ decimal id')) ++ 32 ∷ (field name' ++ 32 ∷ (field typ' ++ 32 ∷ field meta')) = cc in
+    let tail : (decimal time ++ (32 ∷ decimal id)) ++ 32 ∷ (field name ++ 32 ∷ (field typ ++ 32 ∷ field meta))
+    ≡ (decimal time' ++ (32 ∷ decimal id')) ++ 32 ∷ (field name' ++ 32 ∷ (field typ' ++ 32 ∷ field meta')) = cc in
     let h = head-split time id time' id' _ _ p.0 (omega (arith, p.1)) q.0 (omega (arith, q.1)) tail in
     let n = split (field name) (field name') _ _ (field-part name) (field-part name') h.2 in
     let t = split (field typ) (field typ') _ _ (field-part typ) (field-part typ') n.1 in
@@ -150,7 +162,8 @@ line-one (Start time id name typ meta) (Start time' id' name' typ' meta') p q e 
     let meta_is : meta ≡ meta' = field-one meta meta' p.4 q.4 t.1 in
     cc
 line-one (Value time id (Int64 n)) (Value time' id' (Int64 n')) p q e =
-    let tail : (decimal time ++ (32 ∷ decimal id)) ++ 32 ∷ 105 ∷ 54 ∷ 52 ∷ 58 ∷ signed_decimal n ≡ (decimal time' ++ (32 ∷ decimal id')) ++ 32 ∷ 105 ∷ 54 ∷ 52 ∷ 58 ∷ signed_decimal n' = cc in
+    let tail : (decimal time ++ (32 ∷ decimal id)) ++ 32 ∷ 105 ∷ 54 ∷ 52 ∷ 58 ∷ signed_decimal n
+    ≡ (decimal time' ++ (32 ∷ decimal id')) ++ 32 ∷ 105 ∷ 54 ∷ 52 ∷ 58 ∷ signed_decimal n' = cc in
     let h = head-split time id time' id' _ _ p.0 (omega (arith, p.1)) q.0 (omega (arith, q.1)) tail in
     let value : 105 ∷ 54 ∷ 52 ∷ 58 ∷ signed_decimal n ≡ 105 ∷ 54 ∷ 52 ∷ 58 ∷ signed_decimal n' = h.2 in
     let digits : signed_decimal n ≡ signed_decimal n' = cc in
@@ -160,22 +173,36 @@ line-one (Value time id (Int64 n)) (Value time' id' (Int64 n')) p q e =
     cc
 line-one (Finish time id) (Finish time' id') p q e =
     let tail : decimal time ++ (32 ∷ decimal id) ≡ decimal time' ++ (32 ∷ decimal id') = cc in
-    let first = split (decimal time) (decimal time') (decimal id) (decimal id') (decimal-part time p.0) (decimal-part time' q.0) tail in
+    let first = split (decimal time) (decimal time') (decimal id) (decimal id') (decimal-part time p.0)
+    (decimal-part time' q.0) tail in
     let time_is : time ≡ time' = decimal_injective time time' p.0 q.0 first.0 in
     let id_is : id ≡ id' = decimal_injective id id' (omega (arith, p.1)) (omega (arith, q.1)) first.1 in
     cc
-line-one (Start time id name typ meta) (Value time' id' (Int64 n)) p q e = absurd (apart 83 68 _ _ (λ same. absurd (omega (arith, same))) e)
-line-one (Start time id name typ meta) (Finish time' id') p q e = absurd (apart 83 70 _ _ (λ same. absurd (omega (arith, same))) e)
-line-one (Value time id (Int64 n)) (Start time' id' name typ meta) p q e = absurd (apart 68 83 _ _ (λ same. absurd (omega (arith, same))) e)
-line-one (Value time id (Int64 n)) (Finish time' id') p q e = absurd (apart 68 70 _ _ (λ same. absurd (omega (arith, same))) e)
-line-one (Finish time id) (Start time' id' name typ meta) p q e = absurd (apart 70 83 _ _ (λ same. absurd (omega (arith, same))) e)
-line-one (Finish time id) (Value time' id' (Int64 n)) p q e = absurd (apart 70 68 _ _ (λ same. absurd (omega (arith, same))) e)
+line-one (Start time id name typ meta) (Value time' id' (Int64 n)) p q e =
+    absurd (apart 83 68 _ _ (λ same. absurd (omega (arith, same))) e)
+line-one (Start time id name typ meta) (Finish time' id') p q e =
+    absurd (apart 83 70 _ _ (λ same. absurd (omega (arith, same))) e)
+line-one (Value time id (Int64 n)) (Start time' id' name typ meta) p q e =
+    absurd (apart 68 83 _ _ (λ same. absurd (omega (arith, same))) e)
+line-one (Value time id (Int64 n)) (Finish time' id') p q e =
+    absurd (apart 68 70 _ _ (λ same. absurd (omega (arith, same))) e)
+line-one (Finish time id) (Start time' id' name typ meta) p q e =
+    absurd (apart 70 83 _ _ (λ same. absurd (omega (arith, same))) e)
+line-one (Finish time id) (Value time' id' (Int64 n)) p q e =
+    absurd (apart 70 68 _ _ (λ same. absurd (omega (arith, same))) e)
 
 -- and with their places
-pub placed-one : (a b : ItemAt) → a.at < 2 ^ 64 → b.at < 2 ^ 64 → FitsItsTypes a.item → FitsItsTypes b.item → placed_line a ≡ placed_line b → a ≡ b
+pub placed-one : (a b : ItemAt) → a.at < 2 ^ 64 → b.at < 2 ^ 64 → FitsItsTypes a.item → FitsItsTypes b.item
+    → placed_line a ≡ placed_line b → a ≡ b
 placed-one a b at_a at_b p q e =
-    let tail : decimal a.at ++ 32 ∷ (item_line a.item ++ 10 ∷ []) ≡ decimal b.at ++ 32 ∷ (item_line b.item ++ 10 ∷ []) = cc in
-    let first = split (decimal a.at) (decimal b.at) (item_line a.item ++ 10 ∷ []) (item_line b.item ++ 10 ∷ []) (decimal-part a.at at_a) (decimal-part b.at at_b) tail in
+    let tail : decimal a.at ++ 32 ∷ (item_line a.item ++ 10 ∷ []) ≡ decimal b.at ++ 32 ∷ (item_line b.item ++ 10 ∷ []) =
+    cc in
+    let first = split (decimal a.at) (decimal b.at) (item_line a.item ++ 10 ∷ []) (item_line b.item ++ 10 ∷ [])
+    (decimal-part a.at at_a) (decimal-part b.at at_b) tail in
     let at_is : a.at ≡ b.at = decimal_injective a.at b.at at_a at_b first.0 in
-    let item_is : a.item ≡ b.item = line-one a.item b.item p q (append_cancel_right (item_line a.item) (item_line b.item) (10 ∷ []) first.1) in
-    ap (λ (n : ℕ). record { at = n; item = a.item }) at_is ∙ ap (λ (x : LogItem). record { at = b.at; item = x }) item_is
+    let item_is : a.item ≡ b.item = line-one a.item b.item p q
+    (append_cancel_right (item_line a.item) (item_line b.item) (10 ∷ []) first.1) in
+    ap (λ (n : ℕ). record {
+      at = n;
+      item = a.item;
+    }) at_is ∙ ap (λ (x : LogItem). record { at = b.at; item = x }) item_is

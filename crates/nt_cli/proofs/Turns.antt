@@ -7,6 +7,8 @@ use Rattle.nt_cli.specs.LineReading.{Ahead}
 use Rattle.nt_cli.specs.DeskRun.{beginning, GoesOn}
 use Rattle.nt_cli.specs.Desk.{Decoding, IsDecoding}
 
-pub record Runs (before now out_before out_now : Option (List ℕ)) (server : ServerState) (ahead : Ahead) (number : ℕ) : Type 0 where
-  pub goes_on : (decode : Decoding) → IsDecoding decode → GoesOn (beginning decode) before now out_before out_now server ahead number
+pub record Runs (before now out_before out_now : Option (List ℕ)) (server : ServerState) (ahead : Ahead) (number : ℕ) :
+    Type 0 where
+  pub goes_on : (decode : Decoding) → IsDecoding decode → GoesOn (beginning decode) before now out_before out_now server
+      ahead number
   pub small : number + ahead.room ≤ most_bytes + 1

@@ -67,8 +67,8 @@ line_fault number = codes "fault line " ++ (decimal number ++ codes "\n")
 
 -- ---- what a line says
 
--- how binary frames are decoded: the messages of each, up to its first fault. Frames have one meaning, so that there is one
--- decoding
+-- how binary frames are decoded: the messages of each, up to its first fault. Frames have one meaning, so that there is
+-- one decoding
 abbrev pub Decoding : Type 0
 Decoding = List ℕ → List ValueMsg
 
@@ -218,8 +218,8 @@ pub record RepliesAtDesk (bytes : List ℕ) (reply : Reply) : Type 0 where
 
 -- ---- what a desk took of its source, and what stands printed when it stops
 
--- the desk replies so to the bytes that it took of the source: all that were left where the status is 0, and never more than a
--- tool reads, but for a piece
+-- the desk replies so to the bytes that it took of the source: all that were left where the status is 0, and never more
+-- than a tool reads, but for a piece
 pub record RepliesToTaken (before now : Option (List ℕ)) (reply : Reply) : Type 0 where
   pub bytes : List ℕ
   pub taken : Consumes before now bytes
@@ -244,7 +244,8 @@ pub record DeskBroken (before now out_before out_now : Option (List ℕ)) : Type
   pub printed : IsCutShort reply out_before out_now
 
 -- the reply by what was taken of the source was given so far, by the result
-abbrev pub EndsDesk : Option (List ℕ) → Option (List ℕ) → Option (List ℕ) → Option (List ℕ) → Result Status ToolFault → Type 0
+abbrev pub EndsDesk : Option (List ℕ) → Option (List ℕ) → Option (List ℕ) → Option (List ℕ) → Result Status ToolFault
+    → Type 0
 EndsDesk before now out_before out_now (Ok status) =
     (reply : Reply) × RepliesToTaken before now reply × IsGiven reply (number_of status) out_before out_now
 EndsDesk before now out_before out_now (Err Memory) = DeskBegun before now out_before out_now

@@ -45,7 +45,12 @@ left_reply from bytes = reply_within from.decode from.ahead.room from.past from.
 
 -- where a desk begins
 abbrev pub beginning : Decoding → Progress
-beginning decode = record { decode = decode; ahead = record { bytes = []; room = most_bytes }; past = opened; number = 1 }
+beginning decode = record {
+  decode = decode;
+  ahead = record { bytes = []; room = most_bytes };
+  past = opened;
+  number = 1;
+}
 
 -- ---- how it ends
 
@@ -73,7 +78,8 @@ pub record Breaks (from : Progress) (before now out_before out_now : Option (Lis
   pub cut : (more : List ℕ) → MayFollow all more → IsCutShort (left_reply from (taken ++ more)) out_before out_now
 
 -- by the status, or by what failed
-abbrev pub Ends : Progress → Option (List ℕ) → Option (List ℕ) → Option (List ℕ) → Option (List ℕ) → Result Status ToolFault → Type 0
+abbrev pub Ends : Progress → Option (List ℕ) → Option (List ℕ) → Option (List ℕ) → Option (List ℕ)
+    → Result Status ToolFault → Type 0
 Ends from before now out_before out_now (Ok status) = Settles from before now out_before out_now (number_of status)
 Ends from before now out_before out_now (Err Memory) = Stops from before now out_before out_now
 Ends from before now out_before out_now (Err Read) = Stops from before now out_before out_now
@@ -82,7 +88,8 @@ Ends from before now out_before out_now (Err Write) = Breaks from before now out
 -- ---- how it goes on
 
 -- a text was printed, which the reply begins with, and the rest of the reply is still to be given
-pub record GoesOn (from : Progress) (before now out_before out_now : Option (List ℕ)) (server : ServerState) (ahead : Ahead) (number : ℕ) : Type 0 where
+pub record GoesOn (from : Progress) (before now out_before out_now : Option (List ℕ)) (server : ServerState)
+    (ahead : Ahead) (number : ℕ) : Type 0 where
   pub taken : List ℕ
   pub text : List ℕ
   pub past : List Entry
@@ -90,10 +97,19 @@ pub record GoesOn (from : Progress) (before now out_before out_now : Option (Lis
   pub size : length from.ahead.bytes + length taken + ahead.room ≡ from.ahead.room + length ahead.bytes
   pub printed : Appends out_before out_now text
   pub connected : IsConnected server past
-  pub same : (more : List ℕ) → left_reply from (taken ++ more) ≡ with_text text (left_reply (record { decode = from.decode; ahead = ahead; past = past; number = number }) more)
+  pub same : (more : List ℕ) → left_reply from (taken ++ more) ≡ with_text text (left_reply (record {
+    decode = from.decode;
+    ahead = ahead;
+    past = past;
+    number = number;
+  }) more)
 
 -- a line was read and answered, or the desk ended
-abbrev pub Turns : Progress → Option (List ℕ) → Option (List ℕ) → Option (List ℕ) → Option (List ℕ) → ServerState → Ahead → ℕ → Result (Option Status) ToolFault → Type 0
-Turns from before now out_before out_now server ahead number (Ok None) = GoesOn from before now out_before out_now server ahead number
-Turns from before now out_before out_now server ahead number (Ok (Some status)) = Ends from before now out_before out_now (Ok status)
-Turns from before now out_before out_now server ahead number (Err fault) = Ends from before now out_before out_now (Err fault)
+abbrev pub Turns : Progress → Option (List ℕ) → Option (List ℕ) → Option (List ℕ) → Option (List ℕ) → ServerState
+    → Ahead → ℕ → Result (Option Status) ToolFault → Type 0
+Turns from before now out_before out_now server ahead number (Ok None) =
+    GoesOn from before now out_before out_now server ahead number
+Turns from before now out_before out_now server ahead number (Ok (Some status)) =
+    Ends from before now out_before out_now (Ok status)
+Turns from before now out_before out_now server ahead number (Err fault) =
+    Ends from before now out_before out_now (Err fault)

@@ -70,6 +70,7 @@ AreBytes text = All (λ b. b < 256) text
 
 -- an item whose times, ids and values fit their types, and whose texts are bytes
 abbrev pub FitsItsTypes : LogItem → Type 0
-FitsItsTypes (Start time id name typ meta) = (time < 2 ^ 64) × (id < 2 ^ 32) × AreBytes name × AreBytes typ × AreBytes meta
+FitsItsTypes (Start time id name typ meta) = (time < 2 ^ 64) × (id < 2 ^ 32) × AreBytes name × AreBytes typ
+    × AreBytes meta
 FitsItsTypes (Value time id (Int64 n)) = (time < 2 ^ 64) × (id < 2 ^ 32) × IsInt64 n
 FitsItsTypes (Finish time id) = (time < 2 ^ 64) × (id < 2 ^ 32)

@@ -24,8 +24,8 @@ pub record Ahead : Type 0 where
   pub bytes : List ℕ
   pub room : ℕ
 
--- bytes went from what was ahead to a line, and then a line feed, where one came: what was ahead and what was taken of the
--- source meanwhile is these bytes, the line feed and what is ahead now
+-- bytes went from what was ahead to a line, and then a line feed, where one came: what was ahead and what was taken of
+-- the source meanwhile is these bytes, the line feed and what is ahead now
 pub record Gives (old new : Ahead) (taken bytes feed : List ℕ) : Type 0 where
   pub whole : old.bytes ++ taken ≡ bytes ++ (feed ++ new.bytes)
   pub room : old.room ≡ length bytes + (length feed + new.room)

@@ -57,7 +57,8 @@ pub record RepliesToTooMany (bytes : List ℕ) (reply : Reply) : Type 0 where
 abbrev pub IsReply : LogTool → List ℕ → Reply → Type 0
 IsReply tool bytes reply = RepliesToLog tool bytes reply ⊎ RepliesToTooMany bytes reply
 
--- the tool replies so to the bytes that it took of the source: all that were left, or more than a tool reads, by a piece at most
+-- the tool replies so to the bytes that it took of the source: all that were left, or more than a tool reads, by a
+-- piece at most
 pub record RepliesToSource (tool : LogTool) (before now : Option (List ℕ)) (reply : Reply) : Type 0 where
   pub bytes : List ℕ
   pub taken : Consumes before now bytes
@@ -68,7 +69,8 @@ pub record RepliesToSource (tool : LogTool) (before now : Option (List ℕ)) (re
 -- ---- what becomes of a reply
 
 -- each reply to a log of these bytes is given so, and there is one
-pub record GivesLog (tool : LogTool) (bytes : List ℕ) (before now : Option (List ℕ)) (result : Result Status ToolFault) : Type 0 where
+pub record GivesLog (tool : LogTool) (bytes : List ℕ) (before now : Option (List ℕ)) (result : Result Status ToolFault)
+    : Type 0 where
   pub some : (reply : Reply) × RepliesToLog tool bytes reply
   pub gives : (reply : Reply) → RepliesToLog tool bytes reply → GivesReply reply before now result
 
@@ -84,7 +86,8 @@ StopsLog Check before now out_before out_now = Keeps out_before out_now
 StopsLog Show before now out_before out_now = Keeps out_before out_now ⊎ HasBegun Show before now out_before out_now
 
 -- the reply by what was taken of the source was given so far, by the result
-abbrev pub EndsLog : LogTool → Option (List ℕ) → Option (List ℕ) → Option (List ℕ) → Option (List ℕ) → Result Status ToolFault → Type 0
+abbrev pub EndsLog : LogTool → Option (List ℕ) → Option (List ℕ) → Option (List ℕ) → Option (List ℕ)
+    → Result Status ToolFault → Type 0
 EndsLog tool before now out_before out_now (Ok status) =
     (reply : Reply) × RepliesToSource tool before now reply × IsGiven reply (number_of status) out_before out_now
 EndsLog tool before now out_before out_now (Err Memory) = StopsLog tool before now out_before out_now

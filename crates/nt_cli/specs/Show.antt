@@ -14,7 +14,8 @@ pub record HasPrinted (lines rest : List ℕ) (before now : Option (List ℕ)) :
 
 -- the items that these bytes mean begin with these
 abbrev pub BeginsItems : List ℕ → List ItemAt → Type 0
-BeginsItems bytes items = (all : List ItemAt) (fault : Option LogFault) → Means bytes all fault → (more : List ItemAt) × (all ≡ items ++ more)
+BeginsItems bytes items = (all : List ItemAt) (fault : Option LogFault) → Means bytes all fault
+    → (more : List ItemAt) × (all ≡ items ++ more)
 
 -- printing stopped at this rest of the lines of the first items of these bytes
 pub record HasStopped (bytes rest : List ℕ) (before now : Option (List ℕ)) : Type 0 where

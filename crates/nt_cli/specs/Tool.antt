@@ -63,8 +63,10 @@ Unread words before now out_before out_now = UnreadBy (tool_of words) before now
 
 -- what stands printed where a write failed: a prefix of the reply that isn't all of it
 abbrev pub UnwrittenBy : Option Tool → Option (List ℕ) → Option (List ℕ) → Option (List ℕ) → Option (List ℕ) → Type 0
-UnwrittenBy None before now out_before out_now = (reply : Reply) × DecidesBy None before now reply × IsCutShort reply out_before out_now
-UnwrittenBy (Some (Log tool)) before now out_before out_now = (reply : Reply) × RepliesToSource tool before now reply × IsCutShort reply out_before out_now
+UnwrittenBy None before now out_before out_now = (reply : Reply) × DecidesBy None before now reply
+    × IsCutShort reply out_before out_now
+UnwrittenBy (Some (Log tool)) before now out_before out_now = (reply : Reply) × RepliesToSource tool before now reply
+    × IsCutShort reply out_before out_now
 UnwrittenBy (Some Desk) before now out_before out_now = DeskBroken before now out_before out_now
 
 -- the same of these words
@@ -72,18 +74,22 @@ abbrev pub Unwritten : List (List ℕ) → Option (List ℕ) → Option (List �
 Unwritten words before now out_before out_now = UnwrittenBy (tool_of words) before now out_before out_now
 
 -- the reply to words that no tool has was given so far, by the result
-abbrev pub EndsUsage : Option (List ℕ) → Option (List ℕ) → Option (List ℕ) → Option (List ℕ) → Result Status ToolFault → Type 0
-EndsUsage before now out_before out_now (Ok status) = (now ≡ before) × IsGiven usage_reply (number_of status) out_before out_now
+abbrev pub EndsUsage : Option (List ℕ) → Option (List ℕ) → Option (List ℕ) → Option (List ℕ) → Result Status ToolFault
+    → Type 0
+EndsUsage before now out_before out_now (Ok status) = (now ≡ before)
+    × IsGiven usage_reply (number_of status) out_before out_now
 EndsUsage before now out_before out_now (Err Memory) = Keeps out_before out_now
 EndsUsage before now out_before out_now (Err Read) = Keeps out_before out_now
 EndsUsage before now out_before out_now (Err Write) = (now ≡ before) × IsCutShort usage_reply out_before out_now
 
 -- what becomes of the reply to words with this tool or none, by the result
-abbrev pub EndsBy : Option Tool → Option (List ℕ) → Option (List ℕ) → Option (List ℕ) → Option (List ℕ) → Result Status ToolFault → Type 0
+abbrev pub EndsBy : Option Tool → Option (List ℕ) → Option (List ℕ) → Option (List ℕ) → Option (List ℕ)
+    → Result Status ToolFault → Type 0
 EndsBy None before now out_before out_now result = EndsUsage before now out_before out_now result
 EndsBy (Some (Log tool)) before now out_before out_now result = EndsLog tool before now out_before out_now result
 EndsBy (Some Desk) before now out_before out_now result = EndsDesk before now out_before out_now result
 
 -- the same of these words
-abbrev pub Ends : List (List ℕ) → Option (List ℕ) → Option (List ℕ) → Option (List ℕ) → Option (List ℕ) → Result Status ToolFault → Type 0
+abbrev pub Ends : List (List ℕ) → Option (List ℕ) → Option (List ℕ) → Option (List ℕ) → Option (List ℕ)
+    → Result Status ToolFault → Type 0
 Ends words before now out_before out_now result = EndsBy (tool_of words) before now out_before out_now result

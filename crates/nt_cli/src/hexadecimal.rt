@@ -14,7 +14,7 @@ pub fn digits_in(line: &[u8]) -> Option<&[u8]>
 }
 
 /// The bytes of a text of two digits each, with any number of blanks between bytes and nowhere
-/// else. It is None where the text isn't so, and fails for want of memory alone.
+/// else. It is None where the text isn't so.
 pub fn hex_bytes(alloc: Global, text: &[u8]) -> Result<Option<Vec<u8>>, AllocError>
     ensures { IfOk result (λ bytes. option_map (λ b. b.items) bytes ≡ hex_bytes text.now) }
 {

@@ -14,8 +14,7 @@ use nt_frames::{ValueMsg, read_frame};
 use nt_rules::{MOST_VALUE, Msg};
 use std::alloc::{AllocError, Global};
 
-/// The messages of a line: of a text frame, or of a binary one up to its first fault. It fails for
-/// want of memory alone.
+/// The messages of a line: of a text frame, or of a binary one up to its first fault.
 pub fn messages_in(alloc: Global, line: &[u8]) -> Result<Vec<Msg>, AllocError>
     ensures messages { (decode : Decoding) → IsDecoding decode
         → IfOk result (λ msgs. msgs.items ≡ line_messages decode line.now) }

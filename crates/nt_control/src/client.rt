@@ -22,7 +22,7 @@ pub struct ClientRead {
 }
 
 /// Reads a text frame of a client ("Client to Server Messages"). A text that is no JSON, or no
-/// array, is one element that is no message. It fails for want of memory alone.
+/// array, is one element that is no message.
 #[tactic(auto, unfolding(crate::specs::Frame::said_in, crate::specs::Frame::ignored_in))]
 pub fn read_client(alloc: Global, text: &[u8]) -> Result<ClientRead, AllocError>
     ensures msgs { IfOk result (λ read. read.msgs.items ≡ said_in text.now) }

@@ -16,7 +16,7 @@ use std::alloc::{AllocError, Global};
 
 /// The text frame that says these messages, without blanks and with keys in byte order. Where what
 /// they carry nests at most 124 levels deep, its own object counted, it reads as these messages
-/// again. It fails for want of memory alone.
+/// again.
 #[tactic(auto, unfolding(crate::specs::Frame::client_text))]
 pub fn write_client(alloc: Global, msgs: &[ClientMsg]) -> Result<Text, AllocError>
     ensures text { IfOk result (λ text. text ≡ client_text msgs.now) }

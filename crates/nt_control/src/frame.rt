@@ -15,7 +15,7 @@ pub struct Call {
     pub params: Map<String, Value>,
 }
 
-/// The elements of a frame, where its text is an array. It fails for want of memory alone.
+/// The elements of a frame, where its text is an array.
 pub fn elements(alloc: Global, text: &[u8]) -> Result<Option<Vec<Value>>, AllocError>
     ensures { IfOk result (λ elements.
         option_map (λ list. map view list.items) elements ≡ elements_of (tree_in text.now)) }

@@ -37,7 +37,7 @@ pub enum ClientMsg {
 }
 
 impl ClientMsg {
-    /// An equal message. It fails for want of memory alone.
+    /// An equal message.
     pub fn copy(&self, alloc: Global) -> Result<ClientMsg, AllocError>
         ensures { IfOk result (λ m. m ≡ self.now) }
     {
@@ -93,7 +93,7 @@ pub enum ServerMsg {
 }
 
 impl ServerMsg {
-    /// An equal message. It fails for want of memory alone.
+    /// An equal message.
     pub fn copy(&self, alloc: Global) -> Result<ServerMsg, AllocError>
         ensures { IfOk result (λ m. m ≡ self.now) }
     {

@@ -22,7 +22,7 @@ pub struct ServerRead {
 }
 
 /// Reads a text frame of a server ("Server to Client Messages"). A text that is no JSON, or no
-/// array, is one element that is no message. It fails for want of memory alone.
+/// array, is one element that is no message.
 #[tactic(auto, unfolding(crate::specs::Frame::told_in, crate::specs::Frame::untold_in))]
 pub fn read_server(alloc: Global, text: &[u8]) -> Result<ServerRead, AllocError>
     ensures msgs { IfOk result (λ read. read.msgs.items ≡ told_in text.now) }

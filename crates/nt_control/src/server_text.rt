@@ -14,7 +14,7 @@ use std::alloc::{AllocError, Global};
 
 /// The text frame that says these messages, without blanks and with keys in byte order. Where what
 /// they carry nests at most 124 levels deep, its own object counted, it reads as these messages
-/// again. It fails for want of memory alone.
+/// again.
 #[tactic(auto, unfolding(crate::specs::Frame::server_text))]
 pub fn write_server(alloc: Global, msgs: &[ServerMsg]) -> Result<Text, AllocError>
     ensures text { IfOk result (λ text. text ≡ server_text msgs.now) }

@@ -12,7 +12,7 @@ use nt_values::Text;
 use serde_json::{Map, Value};
 use std::alloc::{AllocError, Global};
 
-/// Takes the names at a key out of the params. It fails for want of memory alone.
+/// Takes the names at a key out of the params.
 pub fn take_names(
     alloc: Global,
     params: &mut Map<String, Value>,
@@ -32,7 +32,7 @@ pub fn take_names(
     names(alloc, items)
 }
 
-/// The names that these items are, where each is a text. It fails for want of memory alone.
+/// The names that these items are, where each is a text.
 fn names(alloc: Global, items: Vec<Value>) -> Result<Option<Names>, AllocError>
     ensures { IfOk result (λ names. names ≡ texts_of (items_view items.items)) }
 {

@@ -20,12 +20,12 @@ pub trait Message: Sized {
 
     ghost read: { Data → Option Self };
 
-    /// The element that says the message. It fails for want of memory alone.
+    /// The element that says the message.
     fn element(&self, alloc: Global) -> Result<Value, AllocError>
         ensures { IfOk result (λ e. Says written read (view e) self.now) };
 }
 
-/// The tree of the frame that says these messages. It fails for want of memory alone.
+/// The tree of the frame that says these messages.
 pub fn tree<M: Message>(alloc: Global, msgs: &[M]) -> Result<Value, AllocError>
     ensures tree { IfOk result (λ tree. view tree ≡ array (items_of (map M.written msgs.now))) }
     ensures whole { IfOk result (λ tree. has_float (view tree) ≡ false) }
@@ -40,7 +40,7 @@ pub fn tree<M: Message>(alloc: Global, msgs: &[M]) -> Result<Value, AllocError>
     Ok(Value::Array(elements))
 }
 
-/// The text of a frame, without blanks. It fails for want of memory alone.
+/// The text of a frame, without blanks.
 pub fn frame_text(alloc: Global, tree: &Value) -> Result<Text, AllocError>
     ensures text { IfOk result (λ text. has_float (view tree.now) ≡ false
         → text ≡ compact_text (view tree.now)) }
@@ -50,7 +50,7 @@ pub fn frame_text(alloc: Global, tree: &Value) -> Result<Text, AllocError>
     Ok(Text::of_string(tree.to_string(alloc)?))
 }
 
-/// The element of a method with these params. It fails for want of memory alone.
+/// The element of a method with these params.
 pub fn element_of(
     alloc: Global,
     method: &str,
@@ -72,7 +72,7 @@ pub fn integer_value(n: i64) -> Value
     Value::from(n)
 }
 
-/// The array of these names, which is read as them again. It fails for want of memory alone.
+/// The array of these names, which is read as them again.
 pub fn names_value(alloc: Global, names: &Names) -> Result<Value, AllocError>
     ensures tree { IfOk result (λ value. view value ≡ text_items names.now) }
     ensures whole { IfOk result (λ _. has_float (text_items names.now) ≡ false) }
@@ -99,7 +99,7 @@ pub fn options_value(alloc: Global, options: Options) -> Result<Value, AllocErro
     Ok(Value::Object(members))
 }
 
-/// Puts a text at a key. It fails for want of memory alone.
+/// Puts a text at a key.
 pub fn put_text(
     alloc: Global,
     members: &mut Map<String, Value>,

@@ -16,8 +16,7 @@ pub trait Element: Sized + Drop {
 
     ghost written: { Self → AtomValue };
 
-    /// The value that an atom stands for, or None where it may stand for no value of this type. It
-    /// fails for want of memory alone.
+    /// The value that an atom stands for, or None where it may stand for no value of this type.
     fn of_atom(alloc: Global, atom: &Atom<'_>) -> Result<Option<Self>, AllocError>
         requires { Fits (value_of atom.now) }
         ensures { IfOk result (λ x. MatchOption x

@@ -15,7 +15,7 @@ pub struct ValueMsg {
 }
 
 impl ValueMsg {
-    /// An equal message. It fails for want of memory alone.
+    /// An equal message.
     pub fn copy(&self, alloc: Global) -> Result<ValueMsg, AllocError>
         ensures { IfOk result (λ message. message ≡ self.now) }
     {

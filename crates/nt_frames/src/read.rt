@@ -248,8 +248,7 @@ fn small_message_of(alloc: Global, bytes: &[u8], most: u64) -> Result<(ValueMsg,
 }
 
 /// The messages of a frame (NetworkTables 4.1, binary frames), up to the first that is at fault or
-/// whose value's size passes `most`. It fails for want of memory alone. Room is taken only for what
-/// was read.
+/// whose value's size passes `most`. Room is taken only for what was read.
 pub fn read_frame(alloc: Global, bytes: &[u8], most: u64) -> Result<FrameRead, AllocError>
     ensures means { IfOk result (λ read. Means most bytes.now read.messages.items read.fault) }
     ensures only { IfOk result (λ read. (messages : List Message) (fault : Option Fault)

@@ -13,4 +13,6 @@ pub mod MarkLaws
 pub mod MarksById
 pub mod OwnKeys
 pub mod QueuedItems
+pub mod RewantedMarks
+pub mod SettingsOwed
 pub mod WishChanges

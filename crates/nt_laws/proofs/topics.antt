@@ -3,6 +3,7 @@ pub mod Different
 pub mod FoundItems
 pub mod FoundLives
 pub mod ItemFacts
+pub mod NamedAfter
 pub mod OneName
 pub mod OwnUids
 pub mod Pairs
@@ -12,3 +13,4 @@ pub mod TakenLaws
 pub mod TakenPuts
 pub mod TopicLaws
 pub mod TopicOrder
+pub mod Turns

@@ -13,7 +13,7 @@ pub enum Frame {
 }
 
 impl Frame {
-    /// An equal frame. It fails for want of memory alone.
+    /// An equal frame.
     pub fn copy(&self, alloc: Global) -> Result<Frame, AllocError>
         ensures { IfOk result (λ frame. frame ≡ self.now) }
     {

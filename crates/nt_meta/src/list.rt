@@ -88,7 +88,7 @@ impl Packed {
         Ok(packed)
     }
 
-    /// The array: its head and its elements. It fails for want of memory alone.
+    /// The array: its head and its elements.
     pub fn finish(&self, alloc: Global) -> Result<Bytes, AllocError>
         ensures { IfOk result (λ bytes. bytes ≡ packed_bytes self.now) }
     {

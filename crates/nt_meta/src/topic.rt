@@ -68,7 +68,7 @@ impl MetaTopic<'_> {
         }
     }
 
-    /// Its name. It fails for want of memory alone.
+    /// Its name.
     fn name(&self, alloc: Global) -> Result<Name, AllocError>
         ensures { IfOk result (λ name. (r : Roster) → name ≡ (meta_of r self.now).name) }
     {
@@ -112,7 +112,7 @@ impl MetaTopic<'_> {
     }
 }
 
-/// A key behind a prefix, as a name. It fails for want of memory alone.
+/// A key behind a prefix, as a name.
 fn joined(alloc: Global, prefix: &str, key: &str) -> Result<Name, AllocError>
     ensures { IfOk result (λ name. name ≡ prefix.now ++ key.now) }
 {

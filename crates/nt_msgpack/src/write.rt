@@ -181,8 +181,7 @@ fn put_head(
     }
 }
 
-/// Appends the shortest spelling of an atom. After an error, for want of memory alone, `out` is
-/// unchanged.
+/// Appends the shortest spelling of an atom. After an error `out` is unchanged.
 #[inline(always)]
 #[tactic(auto, unfolding(crate::specs::Atoms::shortest))]
 pub fn put_atom(out: &mut Vec<u8>, atom: &Atom<'_>) -> Result<(), AllocError>

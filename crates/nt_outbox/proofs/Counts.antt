@@ -8,7 +8,7 @@ use Rattle.nt_rules.specs.declared.waiting.Setting.{Setting}
 use Rattle.nt_rules.specs.outbox.Marks.{Mark}
 use Rattle.nt_rules.specs.outbox.Keys.{Key, is_before, insert_key, in_order, end_key, publish_key, setting_key, topic_key, value_key}
 use Rattle.nt_rules.specs.outbox.Marks.{end_keys, reply_keys, topic_keys, value_keys, newest_keys, keys, option_items, settings_weight, values_weight, mark_weight, weight, is_wish, is_empty}
-use Rattle.nt_rules.specs.outbox.Calls.{fallen, left}
+use Rattle.nt_rules.specs.outbox.Calls.{fallen, unless_behind}
 use Rattle.nt_outbox.specs.Steps.{mark_count, count, RiseFrom}
 
 length-mapped : {X : Type 0} (f : X → Key) (xs : List X) → length (map f xs) ≡ length xs
@@ -88,7 +88,7 @@ one-topic m = by (is_wish m.wish && not m.is_announced && is_empty m.publishes)
     by true = omega arith
     by false = omega arith
 
--- each message weighs 64 at least, but for an announce and a value under Newest
+-- each message weighs 64 at least, but for an announce and the newest value of a cached topic
 mark-weighs : (m : Mark) → 64 * mark_count m ≤ mark_weight m + 128
 mark-weighs m =
     let settings = settings-weigh m.settings in
@@ -120,9 +120,9 @@ fits None ms rising none =
 -- so a count that stops at the greatest number is that of what is owed
 pub counted : (fell : Option ℕ) (ms : List Mark) (n : ℕ) → RiseFrom 0 ms
     → is_some (fallen fell (weight ms)) ≡ false → n ≡ min (length (keys ms)) (2 ^ 64 - 1)
-    → n ≡ length (keys (left (fallen fell (weight ms)) ms))
+    → n ≡ length (keys (unless_behind (fallen fell (weight ms)) ms))
 counted fell ms n rising none e = by (fallen fell (weight ms)) refl none
   where
-    by : (o : Option ℕ) → fallen fell (weight ms) ≡ o → is_some o ≡ false → n ≡ length (keys (left o ms))
+    by : (o : Option ℕ) → fallen fell (weight ms) ≡ o → is_some o ≡ false → n ≡ length (keys (unless_behind o ms))
     by (Some w) same none = absurd (cc)
     by None same none = let less = fits fell ms rising same in omega arith

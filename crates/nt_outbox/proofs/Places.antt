@@ -9,7 +9,7 @@ use Rattle.nt_rules.specs.topics.Topics.{change_at}
 use Rattle.nt_rules.specs.outbox.Marks.{Mark}
 use Rattle.nt_outbox.specs.declared.step.Step.{Step}
 use Rattle.nt_outbox.specs.declared.step.Step.TheVariants as step
-use Rattle.nt_rules.specs.outbox.Marks.{is_blank, fresh, kept, at_id, handed, handed_all}
+use Rattle.nt_rules.specs.outbox.Marks.{is_blank, fresh, turned, unless_blank, at_id, handed, handed_all}
 use Rattle.nt_rules.specs.outbox.Keys.{Key}
 use Rattle.nt_rules.specs.outbox.Messages.{mark_at}
 use Rattle.nt_outbox.specs.Steps.{after, left_of, next_index, position_of, RiseFrom}
@@ -116,14 +116,14 @@ pub record IsGap (id : ℕ) (ms : List Mark) (i : ℕ) : Type 0 where
   pub put : (name : List ℕ) (f : Mark → Mark)
       → at_id id name f ms ≡ cond (is_blank (f (fresh id name))) ms (insert ms i (f (fresh id name)))
 
-kept-left : (m : Mark) (ms : List Mark) → kept m ms ≡ change_at left_of 0 (m ∷ ms)
+kept-left : (m : Mark) (ms : List Mark) → unless_blank m ms ≡ change_at left_of 0 (m ∷ ms)
 kept-left m ms = by (is_blank m)
   where
     by : (b : Bool) → cond b ms (m ∷ ms) ≡ cons_option (cond b None (Some m)) ms
     by true = refl
     by false = refl
 
-kept-prefix : (m : Mark) (ms : List Mark) → kept m ms ≡ cond (is_blank m) ms (insert ms 0 m)
+kept-prefix : (m : Mark) (ms : List Mark) → unless_blank m ms ≡ cond (is_blank m) ms (insert ms 0 m)
 kept-prefix m ms = refl
 
 next-at : (id : ℕ) (m : Mark) (ms : List Mark) (i : ℕ) → eqb m.id id ≡ false → ltb id m.id ≡ false
@@ -179,18 +179,19 @@ gap id ms i e = subst (λ r. MatchResult r (IsAt id ms) (IsGap id ms)) e (placed
 
 pub after-id : (s : Step) (m : Mark) → (after s m).id ≡ m.id
 after-id (step.Wish wish) m = refl
-after-id (step.Value p) m = refl
+after-id (step.Value p wish) m = refl
 after-id (step.NewestAt place) m = refl
 after-id (step.Told s wish) m = refl
 after-id (step.Ended place) m = refl
 after-id (step.Published p) m = refl
 after-id (step.OwnSetting s) m = refl
-after-id (step.Turn wish held place) m = refl
-after-id (step.MetaTurn wish) m = refl
+after-id (step.Rewant wish held place) m = refl
+after-id (step.Keep wish) m = refl
+after-id (step.MetaRewant wish) m = refl
 after-id (step.MetaChanged wish) m = refl
 after-id step.Nothing m = refl
 
-rise-kept : (n : ℕ) (m : Mark) (ms : List Mark) → n ≤ m.id → RiseFrom (m.id + 1) ms → RiseFrom n (kept m ms)
+rise-kept : (n : ℕ) (m : Mark) (ms : List Mark) → n ≤ m.id → RiseFrom (m.id + 1) ms → RiseFrom n (unless_blank m ms)
 rise-kept n m ms le h = by (is_blank m)
   where
     by : (b : Bool) → RiseFrom n (cond b ms (m ∷ ms))
@@ -205,22 +206,25 @@ rise-at_id n id name f [] same le fits h =
 rise-at_id n id name f (m ∷ ms) same le fits h =
     by (eqb m.id id) refl (ltb id m.id) refl (λ more. rise-at_id (m.id + 1) id name f ms same more fits h.1)
   where
-    here : RiseFrom n (kept (f m) ms)
+    here : RiseFrom n (unless_blank (f m) ms)
     here = let e = same m in let first = h.0 in
         rise-kept n (f m) ms (omega arith) (subst (λ i. RiseFrom (i + 1) ms) (sym e) h.1)
 
-    before : id < m.id → RiseFrom n (kept (f (fresh id name)) (m ∷ ms))
+    before : id < m.id → RiseFrom n (unless_blank (f (fresh id name)) (m ∷ ms))
     before lt = let e = same (fresh id name) in
         rise-kept n (f (fresh id name)) (m ∷ ms) (omega arith)
         (let first : (f (fresh id name)).id + 1 ≤ m.id = omega arith in (first, h.1))
 
     by : (b : Bool) → eqb m.id id ≡ b → (c : Bool) → ltb id m.id ≡ c
         → (m.id + 1 ≤ id → RiseFrom (m.id + 1) (at_id id name f ms))
-        → RiseFrom n (cond b (kept (f m) ms) (cond c (kept (f (fresh id name)) (m ∷ ms))
+        → RiseFrom n (cond b (unless_blank (f m) ms) (cond c (unless_blank (f (fresh id name)) (m ∷ ms))
         (m ∷ at_id id name f ms)))
     by true e c l more = here
     by false e true l more = before (grind (arith, nat_tests))
     by false e false l more = (h.0, more (grind (arith, nat_tests)))
+
+pub rise-turned : (id : ℕ) (ms : List Mark) → id < 2 ^ 32 → RiseFrom 0 ms → RiseFrom 0 (at_id id [] turned ms)
+rise-turned id ms fits h = rise-at_id 0 id [] turned ms (λ m. refl) (omega arith) fits h
 
 -- ---- the topic of an id
 

@@ -1,5 +1,5 @@
 -- What is queued, and an item more.
-use Rattle.std.proofs.Common.{◌≡◌, ◌≤◌, ◌==◌, ◌+◌, ◌-◌, ◌∙◌, ℕ, Bool, true, false, cond, List, [], ◌∷◌, ◌++◌, length, Result, Ok, Err, IfOk, OnOk, ap, sym, arith}
+use Rattle.std.proofs.Common.{◌≡◌, ◌==◌, ◌+◌, ◌∙◌, ℕ, true, false, cond, List, [], ◌∷◌, ◌++◌, length, Result, Ok, Err, IfOk, OnOk, ap, sym}
 use Rattle.serde_json.specs.Written.{compact_text}
 use Rattle.nt_values.specs.Types.{size_of}
 use Rattle.nt_rules.specs.declared.waiting.Placed.{Placed}

@@ -1,10 +1,11 @@
 -- What happens to what is kept of a topic, as cases; and where a topic stands among those that are kept.
-use Rattle.std.specs.Prelude.{ℕ, suc, false, List, [], ◌∷◌, length, Option, Some, None, Result, Ok, Err, ◌≡◌, ◌≤◌, ◌+◌, ◌^◌, ◌==◌, nat_lt, if◌then◌else◌}
-use Rattle.nt_subs.specs.declared.wish.Wanted.TheVariants.{Newest, All}
+use Rattle.std.specs.Prelude.{ℕ, suc, List, [], ◌∷◌, length, Option, Some, None, Result, Ok, Err, ◌≡◌, ◌≤◌, ◌+◌, ◌^◌, ◌==◌, nat_lt, if◌then◌else◌}
+use Rattle.nt_subs.specs.declared.wish.Wanted.{Wanted}
+use Rattle.nt_subs.specs.declared.wish.Wanted.TheVariants.{Newest}
 use Rattle.nt_rules.specs.outbox.Marks.{Mark}
 use Rattle.nt_outbox.specs.declared.step.Step.{Step}
 use Rattle.nt_outbox.specs.declared.step.Step.TheVariants as step
-use Rattle.nt_rules.specs.outbox.Marks.{started, noted_value, noted_setting, ended, replied_publish, replied_setting, newest_of, from_place, is_blank, weight, at_id, option_items, topic_keys}
+use Rattle.nt_rules.specs.outbox.Marks.{started, queued, noted_setting, ended, still_queued, replied_publish, replied_setting, newest_of, from_place, is_blank, weight, at_id, option_items, topic_keys}
 
 -- one more than the last place, and 0 where there is none
 abbrev pub next_of : Option ℕ → ℕ
@@ -13,17 +14,22 @@ next_of (Some place) = place + 1
 
 abbrev pub after : Step → Mark → Mark
 after (step.Wish wish) m = started wish m
-after (step.Value p) m = noted_value p All m
+after (step.Value p wish) m = record m { wish = wish; values = queued (λ p. p.place) p m.values }
 after (step.NewestAt place) m = record m { wish = Newest; newest = Some place }
 after (step.Told s wish) m = noted_setting s wish m
 after (step.Ended place) m = ended place m
 after (step.Published p) m = replied_publish p m
 after (step.OwnSetting s) m = replied_setting s m
-after (step.Turn wish held place) m =
+after (step.Rewant wish held place) m =
     record m { wish = wish; values = from_place m.next held; newest = newest_of wish m.next place }
-after (step.MetaTurn wish) m = record m { wish = wish; newest = newest_of wish m.next (Some 0) }
+after (step.Keep wish) m = record m { wish = wish; newest = None }
+after (step.MetaRewant wish) m = record m { wish = wish; newest = newest_of wish m.next (Some 0) }
 after (step.MetaChanged wish) m = record m { wish = wish; next = 0; newest = newest_of wish 0 (Some 0) }
 after step.Nothing m = m
+
+-- another wish on a topic that isn't cached
+abbrev pub rewanted_passing : Wanted → Wanted → Mark → Mark
+rewanted_passing old wish m = record m { wish = wish; values = still_queued old wish m.values; newest = None }
 
 -- what is left of a topic, and what is left of it after a step
 abbrev pub left_of : Mark → Option Mark

@@ -1,9 +1,11 @@
 //! What the calls of an outbox do to a topic.
 
 ghost use Rattle.std.specs.Prelude.{◌≡◌, IfOk, option_map};
+ghost use Rattle.nt_topics.specs.Properties.{is_cached};
 ghost use Rattle.nt_rules.specs.outbox.Marks.{noted_value, rewanted, placed, meta_wish, rewanted_meta, same_wish};
-ghost use Rattle.nt_outbox.specs.Steps.{after};
+ghost use Rattle.nt_outbox.specs.Steps.{after, rewanted_passing};
 
+use crate::mark::is_valued;
 use crate::step::Step;
 use nt_rules::{Placed, Setting, Topic};
 use nt_subs::Wanted;
@@ -34,23 +36,26 @@ fn placed(alloc: Global, place: u64, time: u64, value: &Value) -> Result<Placed,
     })
 }
 
-/// A value was taken of a topic that is wanted so much. It is copied only where each value is owed.
+/// A value was taken of a topic that is cached or not, and is wanted so much. It is copied only
+/// where each value is owed.
 pub fn value_step(
     alloc: Global,
     place: u64,
     time: u64,
     value: &Value,
+    cached: bool,
     wanted: Wanted,
 ) -> Result<Step, AllocError>
     ensures { IfOk result
         (λ s. after s
-        ≡ noted_value (record { place = place; time = time; value = value.now }) wanted) }
+        ≡ noted_value (record { place = place; time = time; value = value.now }) cached wanted) }
 {
     match wanted {
         Wanted::No => Ok(Step::Wish(Wanted::No)),
         Wanted::TopicOnly => Ok(Step::Wish(Wanted::TopicOnly)),
-        Wanted::Newest => Ok(Step::NewestAt(place)),
-        Wanted::All => Ok(Step::Value(placed(alloc, place, time, value)?)),
+        Wanted::Newest if cached => Ok(Step::NewestAt(place)),
+        Wanted::Newest => Ok(Step::Value(placed(alloc, place, time, value)?, Wanted::Newest)),
+        Wanted::All => Ok(Step::Value(placed(alloc, place, time, value)?, Wanted::All)),
     }
 }
 
@@ -61,8 +66,20 @@ fn is_same(a: Wanted, b: Wanted) -> bool
     a == b
 }
 
+/// How much a topic that isn't cached is wanted changed. What is queued of it stays where its
+/// values were wanted before and are now.
+fn passing_step(old: Wanted, new: Wanted) -> Step
+    ensures { after result ≡ rewanted_passing old new }
+{
+    if is_valued(old) && is_valued(new) {
+        Step::Keep(new)
+    } else {
+        Step::Rewant(new, None, None)
+    }
+}
+
 /// How much a topic is wanted changed. Its held value is copied only where each value is owed.
-pub fn turn_step(
+pub fn rewant_step(
     alloc: Global,
     topic: &Topic,
     taken: u64,
@@ -70,24 +87,29 @@ pub fn turn_step(
     new: Wanted,
 ) -> Result<Step, AllocError>
     ensures { IfOk result
-        (λ s. after s ≡ rewanted (option_map (placed taken) topic.now.value) old new) }
+        (λ s. after s
+        ≡ rewanted (is_cached topic.now.props) (option_map (placed taken) topic.now.value)
+        old new) }
 {
     if is_same(old, new) {
         return Ok(Step::Nothing);
     }
+    if !topic.props.cached() {
+        return Ok(passing_step(old, new));
+    }
     match new {
-        Wanted::No => Ok(Step::Turn(Wanted::No, None, None)),
-        Wanted::TopicOnly => Ok(Step::Turn(Wanted::TopicOnly, None, None)),
+        Wanted::No => Ok(Step::Rewant(Wanted::No, None, None)),
+        Wanted::TopicOnly => Ok(Step::Rewant(Wanted::TopicOnly, None, None)),
         Wanted::Newest => match &topic.value {
-            Some(_) => Ok(Step::Turn(Wanted::Newest, None, Some(taken))),
-            None => Ok(Step::Turn(Wanted::Newest, None, None)),
+            Some(_) => Ok(Step::Rewant(Wanted::Newest, None, Some(taken))),
+            None => Ok(Step::Rewant(Wanted::Newest, None, None)),
         },
         Wanted::All => match &topic.value {
             Some(held) => {
                 let held = placed(alloc, taken, held.time, &held.value)?;
-                Ok(Step::Turn(Wanted::All, Some(held), None))
+                Ok(Step::Rewant(Wanted::All, Some(held), None))
             }
-            None => Ok(Step::Turn(Wanted::All, None, None)),
+            None => Ok(Step::Rewant(Wanted::All, None, None)),
         },
     }
 }
@@ -110,6 +132,6 @@ pub fn meta_step(old: Wanted, new: Wanted) -> Step
     if is_same(meta_wish(old), wish) {
         Step::Nothing
     } else {
-        Step::MetaTurn(wish)
+        Step::MetaRewant(wish)
     }
 }

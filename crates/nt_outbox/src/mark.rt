@@ -1,7 +1,7 @@
 //! What is kept of one topic for one connection.
 
 ghost use Rattle.std.specs.Prelude.{◌≡◌, ◌&&◌, nat_le, not, IfOk};
-ghost use Rattle.nt_rules.specs.outbox.Marks.{is_wish, is_blank, is_empty, fresh, place_from};
+ghost use Rattle.nt_rules.specs.outbox.Marks.{is_wish, is_valued, is_blank, is_empty, fresh, place_from};
 ghost use Rattle.nt_outbox.specs.Steps.{next_of};
 
 use nt_rules::{Placed, Publish, Setting};
@@ -29,9 +29,10 @@ pub struct Mark {
     pub last: Option<u64>,
     /// How much the connection wants it.
     pub wish: Wanted,
-    /// The values that are owed under `All`, the oldest first.
+    /// The values that are owed one by one, the oldest first: under `All`, and of a topic that
+    /// isn't cached.
     pub values: ListOf<Placed>,
-    /// The place of the value that is owed under `Newest`.
+    /// The place of the value of a cached topic that is owed under `Newest`.
     pub newest: Option<u64>,
 }
 
@@ -84,6 +85,16 @@ fn is_wish(wish: Wanted) -> bool
     match wish {
         Wanted::No => false,
         Wanted::TopicOnly | Wanted::Newest | Wanted::All => true,
+    }
+}
+
+/// Whether a topic's values are wanted.
+pub fn is_valued(wish: Wanted) -> bool
+    ensures { result ≡ is_valued wish }
+{
+    match wish {
+        Wanted::No | Wanted::TopicOnly => false,
+        Wanted::Newest | Wanted::All => true,
     }
 }
 

@@ -1,13 +1,13 @@
 //! The topics of which something is kept, by rising id.
 
-ghost use Rattle.std.specs.Prelude.{◌≡◌, ◌≤◌, ◌<◌, vec_len, insert, IfOk, OnOk, length, if◌then◌else◌};
+ghost use Rattle.std.specs.Prelude.{◌≡◌, ◌≤◌, ◌<◌, [], vec_len, insert, IfOk, OnOk, length, if◌then◌else◌};
 ghost use Rattle.std.specs.List.Sorted.{IsSearchInRange};
 ghost use Rattle.nt_rules.specs.topics.Topics.{change_at};
-ghost use Rattle.nt_rules.specs.outbox.Marks.{is_blank, mark_weight, weight, at_id};
+ghost use Rattle.nt_rules.specs.outbox.Marks.{is_blank, mark_weight, turned, weight, at_id};
 ghost use Rattle.nt_outbox.specs.Steps.{after, left_of, left_after, position_of, RiseFrom};
 
 use crate::mark::{Mark, fresh, is_blank};
-use crate::step::{Step, apply};
+use crate::step::{Step, apply, turned};
 use std::alloc::{AllocError, Global};
 
 /// The index of the topic of this id, or else the one where it would stand.
@@ -45,6 +45,24 @@ fn change_at(
     let weight = apply(alloc, &mut marks[i], queued, step)?;
     settle(marks, i);
     Ok(weight)
+}
+
+/// The topic of this id turned. It answers the weight of all that is queued, and takes no memory.
+pub fn turned_at(alloc: Global, marks: &mut Vec<Mark>, queued: u64, id: u32) -> u64
+    requires rising { RiseFrom 0 marks.old.items }
+    requires weighed { queued ≡ weight marks.old.items }
+    ensures marks { marks.new.items ≡ at_id id [] turned marks.old.items }
+    ensures weighed { result ≡ weight marks.new.items }
+    ensures rising { RiseFrom 0 marks.new.items }
+{
+    match position(marks, id) {
+        Ok(i) => {
+            let weight = turned(alloc, &mut marks[i], queued);
+            settle(marks, i);
+            weight
+        }
+        Err(_) => queued,
+    }
 }
 
 /// A step changes a topic of which nothing is kept, and which would stand at an index.

@@ -1,16 +1,16 @@
 //! What one connection is owed.
 
 ghost use Rattle.std.specs.Prelude.{◌≡◌, ◌≤◌, ◌↔◌, true, false, [], length, IfOk, OnOk, OnErr, None, option_copied, is_some, not, take};
-ghost use Rattle.nt_rules.specs.outbox.Calls.{nothing_owed, id_of, behind, moved, called, noted, rewanted_to, meta_rewanted, meta_changed, meta_ended, keys_of, weight_of, drained, drained_batch};
+ghost use Rattle.nt_rules.specs.outbox.Calls.{nothing_owed, id_of, behind, at_place, with_call, noted, turned_to, rewanted_to, meta_rewanted, meta_changed, meta_ended, keys_of, weight_of, drained, drained_batch};
 ghost use Rattle.nt_rules.specs.outbox.Marks.{keys, handed_all, weight};
 ghost use Rattle.nt_rules.specs.outbox.Messages.{batch_of};
 ghost use Rattle.nt_rules.specs.outbox.Replies.{replied_to};
 ghost use Rattle.nt_outbox.specs.Steps.{after, at_known, RiseFrom};
 
-use crate::call::{meta_step, meta_wish, setting, turn_step, value_step};
+use crate::call::{meta_step, meta_wish, rewant_step, setting, value_step};
 use crate::delivery::hand_all;
 use crate::mark::Mark;
-use crate::marks::change;
+use crate::marks::{change, turned_at};
 use crate::message::batch_of;
 use crate::queue::{count, keys};
 use crate::step::Step;
@@ -89,8 +89,8 @@ impl Outbox {
     /// Begins a call at a place, and says whether the connection may be owed something: it hadn't
     /// fallen behind before. One that had keeps nothing.
     fn reach(&mut self, place: u64) -> bool
-        ensures open { result ≡ not (is_some (moved place self.old).fell) }
-        ensures owed { self.new ≡ called place (λ marks. marks) self.old }
+        ensures open { result ≡ not (is_some (at_place place self.old).fell) }
+        ensures owed { self.new ≡ with_call place (λ marks. marks) self.old }
     {
         if self.place < place {
             self.fell = self.behind();
@@ -114,7 +114,7 @@ impl Outbox {
         step: Step,
     ) -> Result<(), AllocError>
         ensures owed { OnOk result
-            (self.new ≡ called place (at_known id name.now (after step)) self.old) }
+            (self.new ≡ with_call place (at_known id name.now (after step)) self.old) }
         ensures well { OnOk result (self.old.failed ≡ false) }
         ensures still_well { OnOk result (self.new.failed ≡ false) }
         ensures failed { OnErr result (self.new.failed ≡ true) }
@@ -140,15 +140,17 @@ impl Outbox {
         }
     }
 
-    /// A change of the table at a place, of a topic that is wanted so much from now on.
+    /// A change of the table at a place, of a topic that is cached or not after it, and is wanted
+    /// so much from now on.
     pub fn note(
         &mut self,
         alloc: Global,
         place: u64,
         change: &Change,
+        cached: bool,
         wanted: Wanted,
     ) -> Result<(), AllocError>
-        ensures owed { OnOk result (self.new ≡ noted place change.now wanted self.old) }
+        ensures owed { OnOk result (self.new ≡ noted place change.now cached wanted self.old) }
         ensures well { OnOk result (self.old.failed ≡ false) }
         ensures still_well { OnOk result (self.new.failed ≡ false) }
         ensures failed { OnErr result (self.new.failed ≡ true) }
@@ -163,7 +165,7 @@ impl Outbox {
                 time,
                 value,
             } => {
-                let Ok(step) = value_step(alloc, place, *time, value, wanted) else {
+                let Ok(step) = value_step(alloc, place, *time, value, cached, wanted) else {
                     return Err(self.fail());
                 };
                 self.call(alloc, place, id_of(*id), name.as_str(), step)
@@ -178,6 +180,18 @@ impl Outbox {
             Change::Ended { id, name } => {
                 self.call(alloc, place, id_of(*id), name.as_str(), Step::Ended(place))
             }
+        }
+    }
+
+    /// The topic of this id turned at a place: whether it is cached changed. No value of it is owed
+    /// any more. It takes no memory.
+    pub fn turned(&mut self, place: u64, id: u32)
+        ensures owed { self.new ≡ turned_to place id self.old }
+        ensures failed { self.new.failed ≡ self.old.failed }
+    {
+        if self.reach(place) {
+            let alloc = *self.marks.allocator();
+            self.weight = turned_at(alloc, &mut self.marks, self.weight, id);
         }
     }
 
@@ -228,7 +242,7 @@ impl Outbox {
         ensures still_well { OnOk result (self.new.failed ≡ false) }
         ensures failed { OnErr result (self.new.failed ≡ true) }
     {
-        let Ok(step) = turn_step(alloc, topic, taken, old, new) else {
+        let Ok(step) = rewant_step(alloc, topic, taken, old, new) else {
             return Err(self.fail());
         };
         self.call(alloc, place, Some(topic.id), topic.name.as_str(), step)

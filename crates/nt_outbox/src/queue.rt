@@ -40,7 +40,7 @@ fn add_replies(keys: &mut Vec<Key>, mark: &Mark) -> Result<(), AllocError>
     Ok(())
 }
 
-/// The values that are owed of a topic under `All`.
+/// The values that are owed of a topic one by one.
 fn add_values(keys: &mut Vec<Key>, mark: &Mark) -> Result<(), AllocError>
     ensures { OnOk result (keys.new.items ≡ keys.old.items ++ value_keys mark.now) }
 {

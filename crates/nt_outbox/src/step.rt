@@ -2,11 +2,11 @@
 //! and tells it anew.
 
 ghost use Rattle.std.specs.Prelude.{◌≡◌, ◌+◌, ◌*◌, ◌≤◌, length, IfOk, OnOk};
-ghost use Rattle.nt_rules.specs.outbox.Marks.{mark_weight, settings_weight, values_weight, queued, ended, newest_of};
+ghost use Rattle.nt_rules.specs.outbox.Marks.{mark_weight, settings_weight, values_weight, queued, turned, ended, newest_of};
 ghost use Rattle.nt_outbox.specs.Steps.{after, next_of};
 
 use crate::mark::{Mark, is_after, place_after};
-use crate::weight::{LEAST, mark_weight, sum, values_weight};
+use crate::weight::{LEAST, mark_weight, sum, values_weight, without_values};
 use nt_rules::{Placed, Publish, Setting};
 use nt_subs::Wanted;
 use nt_values::ListOf;
@@ -18,8 +18,8 @@ use std::mem;
 pub enum Step {
     /// It is wanted so much from now on.
     Wish(Wanted),
-    /// A value was taken, and each is owed.
-    Value(Placed),
+    /// A value was taken, and each is owed. The topic is wanted so much.
+    Value(Placed, Wanted),
     /// A value was taken at this place, and the newest is owed.
     NewestAt(u64),
     /// Its properties changed, and it is wanted so much.
@@ -32,9 +32,11 @@ pub enum Step {
     OwnSetting(Setting),
     /// It is wanted so much, and these are owed where they were not handed: this value, where each
     /// value is owed, and the one at this place, where the newest is.
-    Turn(Wanted, Option<Placed>, Option<u64>),
+    Rewant(Wanted, Option<Placed>, Option<u64>),
+    /// It is wanted so much, and what is queued of its values stays.
+    Keep(Wanted),
     /// A meta topic is wanted so much.
-    MetaTurn(Wanted),
+    MetaRewant(Wanted),
     /// A meta topic's bytes changed, and it is wanted so much.
     MetaChanged(Wanted),
     /// Nothing.
@@ -154,7 +156,7 @@ fn newest_of(wish: Wanted, last: Option<u64>, place: Option<u64>) -> Option<u64>
 }
 
 /// The topic is wanted so much, and these values are owed where they were not handed.
-fn turn(
+fn rewant(
     alloc: Global,
     mark: &mut Mark,
     weight: u64,
@@ -163,10 +165,10 @@ fn turn(
     place: Option<u64>,
 ) -> Result<u64, AllocError>
     requires { mark_weight mark.old ≤ weight }
-    ensures mark { OnOk result (mark.new ≡ after (Step.Turn wish held place) mark.old) }
+    ensures mark { OnOk result (mark.new ≡ after (Step.Rewant wish held place) mark.old) }
     ensures weight { IfOk result (λ w. w + mark_weight mark.old ≡ weight + mark_weight mark.new) }
 {
-    let others = weight - values_weight(mark.values.as_slice())?;
+    let others = without_values(mark.values.as_slice(), weight);
     mark.wish = wish;
     mark.newest = newest_of(wish, mark.last, place);
     mark.values = ListOf::empty(alloc);
@@ -178,6 +180,18 @@ fn turn(
     sum(others, values_weight(mark.values.as_slice())?)
 }
 
+/// It turned: no value of it is owed any more. It takes no memory.
+pub fn turned(alloc: Global, mark: &mut Mark, weight: u64) -> u64
+    requires { mark_weight mark.old ≤ weight }
+    ensures mark { mark.new ≡ turned mark.old }
+    ensures weight { result + mark_weight mark.old ≡ weight + mark_weight mark.new }
+{
+    let others = without_values(mark.values.as_slice(), weight);
+    mark.values = ListOf::empty(alloc);
+    mark.newest = None;
+    others
+}
+
 /// A step changes what is kept of a topic.
 pub fn apply(alloc: Global, mark: &mut Mark, weight: u64, step: Step) -> Result<u64, AllocError>
     requires { mark_weight mark.old ≤ weight }
@@ -186,8 +200,8 @@ pub fn apply(alloc: Global, mark: &mut Mark, weight: u64, step: Step) -> Result<
 {
     match step {
         Step::Wish(wish) => mark.wish = wish,
-        Step::Value(placed) => {
-            mark.wish = Wanted::All;
+        Step::Value(placed, wish) => {
+            mark.wish = wish;
             return queue_value(alloc, &mut mark.values, weight, placed);
         }
         Step::NewestAt(place) => {
@@ -196,7 +210,7 @@ pub fn apply(alloc: Global, mark: &mut Mark, weight: u64, step: Step) -> Result<
         }
         Step::Told(setting, wish) => {
             mark.wish = wish;
-            if mark.is_announced {
+            if mark.is_announced || !mark.settings.as_slice().is_empty() {
                 return queue_setting(alloc, &mut mark.settings, weight, setting);
             }
         }
@@ -207,8 +221,12 @@ pub fn apply(alloc: Global, mark: &mut Mark, weight: u64, step: Step) -> Result<
         Step::OwnSetting(setting) => {
             return queue_setting(alloc, &mut mark.settings, weight, setting);
         }
-        Step::Turn(wish, held, place) => return turn(alloc, mark, weight, wish, held, place),
-        Step::MetaTurn(wish) => {
+        Step::Rewant(wish, held, place) => return rewant(alloc, mark, weight, wish, held, place),
+        Step::Keep(wish) => {
+            mark.wish = wish;
+            mark.newest = None;
+        }
+        Step::MetaRewant(wish) => {
             mark.wish = wish;
             mark.newest = newest_of(wish, mark.last, Some(0));
         }

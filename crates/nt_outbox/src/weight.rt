@@ -1,6 +1,6 @@
 //! What messages weigh.
 
-ghost use Rattle.std.specs.Prelude.{◌≡◌, ◌+◌, IfOk};
+ghost use Rattle.std.specs.Prelude.{◌≡◌, ◌+◌, ◌≤◌, IfOk};
 ghost use Rattle.nt_rules.specs.outbox.Marks.{mark_weight, settings_weight, values_weight, weight};
 
 use crate::mark::Mark;
@@ -38,6 +38,19 @@ pub fn values_weight(values: &[Placed]) -> Result<u64, AllocError>
         weight = sum(weight, sum(LEAST, placed.value.size())?)?;
     }
     Ok(weight)
+}
+
+/// A weight without that of values which are a part of it.
+pub fn without_values(values: &[Placed], weight: u64) -> u64
+    requires { values_weight values.now ≤ weight }
+    ensures { result + values_weight values.now ≡ weight }
+{
+    let mut others = weight;
+    for placed in values {
+        others -= LEAST;
+        others -= placed.value.size();
+    }
+    others
 }
 
 /// The weight of what is queued of a topic.

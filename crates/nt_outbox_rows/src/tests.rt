@@ -1,4 +1,4 @@
-//! Rows of the outbox. Each row tells one topic, `/a`, and one meta topic, `$clients`.
+//! Rows of the outbox. Each row begins with the topic `/a`, and tells one meta topic, `$clients`.
 
 use nt_control::write_server;
 use nt_outbox::Outbox;
@@ -35,24 +35,31 @@ enum Call {
     Props(u64, &'static str, Wanted),
     /// The connection itself changes them.
     OwnProps(u64, &'static str),
-    /// The wish on the topic turns. Its held value was taken at the second place.
-    Turn(u64, u64, Wanted, Wanted),
+    /// How much the topic is wanted changes. Its held value was taken at the second place.
+    Rewant(u64, u64, Wanted, Wanted),
+    /// Whether the topic of this id is cached changes.
+    Turned(u64, u32),
     /// The meta topic has this byte now, and is wanted so much.
     Meta(u64, u8, Wanted),
-    /// The wish on the meta topic turns.
-    MetaTurn(u64, Wanted, Wanted),
+    /// How much the meta topic is wanted changes.
+    MetaRewant(u64, Wanted, Wanted),
     /// The meta topic ends.
     MetaEnd(u64),
     /// At most so many messages are handed.
     Drain(u32),
+    /// The calls that follow are of this topic, which the other connection publishes with this uid.
+    Of(&'static str, i64),
 }
 
-/// A table, the meta topic and the outbox of a connection.
+/// A table, the meta topic and the outbox of a connection; the topic of which the calls are, and
+/// the other connection's uid of it.
 #[derive(Drop)]
 struct Desk {
     table: Table,
     metas: Vec<MetaNow>,
     outbox: Outbox,
+    name: &'static str,
+    uid: i64,
 }
 
 /// The update of this text.
@@ -94,6 +101,8 @@ impl Desk {
             table: Table::new(alloc),
             metas: Vec::new(alloc),
             outbox: Outbox::new(alloc),
+            name: "/a",
+            uid: 1,
         }
     }
 
@@ -105,9 +114,13 @@ impl Desk {
         outcome: &Outcome,
         wanted: Wanted,
     ) -> Result<(), Fail> {
+        let cached = match self.table.topic(self.name) {
+            Some(topic) => topic.props.cached(),
+            None => true,
+        };
         if let Outcome::Done(changes) = outcome {
             for change in changes.as_slice() {
-                self.outbox.note(alloc, place, change, wanted)?;
+                self.outbox.note(alloc, place, change, cached, wanted)?;
             }
         }
         Ok(())
@@ -120,7 +133,7 @@ impl Desk {
         publisher: (u32, i64),
         wanted: Wanted,
     ) -> Result<(), Fail> {
-        let name = TopicName::of(alloc, "/a")?;
+        let name = TopicName::of(alloc, self.name)?;
         let typ = TypeName::of(alloc, "int")?;
         let props = Props::empty(alloc);
         let outcome = self
@@ -131,17 +144,17 @@ impl Desk {
 
     /// The answer to the connection's own publish.
     fn answer_publish(&mut self, alloc: Global, place: u64, uid: i64) -> Result<(), Fail> {
-        let topic = self.table.topic("/a").ok_or("no topic")?;
+        let topic = self.table.topic(self.name).ok_or("no topic")?;
         let reply = Reply::Publish(uid);
         Ok(self.outbox.reply(alloc, place, topic, reply, None)?)
     }
 
     /// The connection's own change of properties, and the answer to it.
     fn own_props(&mut self, alloc: Global, place: u64, text: &str) -> Result<(), Fail> {
-        let name = TopicName::of(alloc, "/a")?;
+        let name = TopicName::of(alloc, self.name)?;
         self.table.set_props(alloc, &name, update_of(alloc, text)?)?;
         let update = update_of(alloc, text)?;
-        let topic = self.table.topic("/a").ok_or("no topic")?;
+        let topic = self.table.topic(self.name).ok_or("no topic")?;
         Ok(
             self.outbox
                 .reply(alloc, place, topic, Reply::Ack, Some(&update))?,
@@ -149,7 +162,7 @@ impl Desk {
     }
 
     fn props(&mut self, alloc: Global, place: u64, text: &str, wanted: Wanted) -> Result<(), Fail> {
-        let name = TopicName::of(alloc, "/a")?;
+        let name = TopicName::of(alloc, self.name)?;
         let update = update_of(alloc, text)?;
         let outcome = self.table.set_props(alloc, &name, update)?;
         self.note(alloc, place, &outcome, wanted)
@@ -165,12 +178,12 @@ impl Desk {
         Ok(batch_line(alloc, &batch)?)
     }
 
-    /// A call that takes a place.
+    /// A call other than a drain.
     fn call(&mut self, alloc: Global, call: &Call) -> Result<(), Fail> {
         match call {
-            Call::Begin(place, wanted) => self.publish(alloc, *place, (OTHER, 1), *wanted),
+            Call::Begin(place, wanted) => self.publish(alloc, *place, (OTHER, self.uid), *wanted),
             Call::End(place) => {
-                let outcome = self.table.unpublish(alloc, OTHER, 1)?;
+                let outcome = self.table.unpublish(alloc, OTHER, self.uid)?;
                 self.note(alloc, *place, &outcome, Wanted::No)
             }
             Call::Own(place, uid) => {
@@ -179,13 +192,13 @@ impl Desk {
             }
             Call::Put(place, time, number, wanted) => {
                 let (time, value) = (u64::from(*time), Value::Int(*number));
-                let outcome = self.table.put(alloc, OTHER, 1, time, value)?;
+                let outcome = self.table.put(alloc, OTHER, self.uid, time, value)?;
                 self.note(alloc, *place, &outcome, *wanted)
             }
             Call::Props(place, text, wanted) => self.props(alloc, *place, text, *wanted),
             Call::OwnProps(place, text) => self.own_props(alloc, *place, text),
-            Call::Turn(place, taken, old, new) => {
-                let topic = self.table.topic("/a").ok_or("no topic")?;
+            Call::Rewant(place, taken, old, new) => {
+                let topic = self.table.topic(self.name).ok_or("no topic")?;
                 Ok(
                     self.outbox
                         .rewant(alloc, *place, topic, *taken, *old, *new)?,
@@ -198,11 +211,19 @@ impl Desk {
                 self.metas.push(meta)?;
                 Ok(())
             }
-            Call::MetaTurn(place, old, new) => {
+            Call::MetaRewant(place, old, new) => {
                 let meta = meta_of(alloc, 0)?;
                 Ok(self.outbox.meta_rewant(alloc, *place, &meta, *old, *new)?)
             }
             Call::MetaEnd(place) => Ok(self.outbox.meta_ended(alloc, *place, META)?),
+            Call::Turned(place, id) => {
+                self.outbox.turned(*place, *id);
+                Ok(())
+            }
+            Call::Of(name, uid) => {
+                (self.name, self.uid) = (*name, *uid);
+                Ok(())
+            }
             Call::Drain(_) => Ok(()),
         }
     }
@@ -223,7 +244,7 @@ use Wanted::{All, Newest, No, TopicOnly};
 /// Under `Newest` the announce and the value are owed, and each is handed once.
 const NEWEST: &[(Call, &str)] = &[
     (Call::Begin(1, No), "0 0"),
-    (Call::Turn(3, 0, No, Newest), "1 0"),
+    (Call::Rewant(3, 0, No, Newest), "1 0"),
     (Call::Put(4, 10, 7, Newest), "2 0"),
     (Call::Drain(1), ANNOUNCE),
     (Call::Drain(256), "1 10 7;"),
@@ -236,27 +257,27 @@ const NEWEST: &[(Call, &str)] = &[
 const ANNOUNCE: &str =
     r#"[{"method":"announce","params":{"id":1,"name":"/a","properties":{},"type":"int"}}]"#;
 
-/// Under `All` the value is queued, and a wish that turns keeps of it what it asks for.
+/// Under `All` the value is queued, and another wish keeps of it what it asks for.
 const ALL: &[(Call, &str)] = &[
     (Call::Begin(1, No), "0 0"),
-    (Call::Turn(3, 0, No, All), "1 0"),
+    (Call::Rewant(3, 0, No, All), "1 0"),
     (Call::Put(4, 10, 7, All), "2 72"),
-    (Call::Turn(5, 4, All, Newest), "2 0"),
-    (Call::Turn(6, 4, Newest, No), "0 0"),
+    (Call::Rewant(5, 4, All, Newest), "2 0"),
+    (Call::Rewant(6, 4, Newest, No), "0 0"),
     (Call::Put(7, 11, 8, No), "0 0"),
-    (Call::Turn(8, 7, No, Newest), "2 0"),
-    (Call::Turn(9, 7, Newest, All), "2 72"),
+    (Call::Rewant(8, 7, No, Newest), "2 0"),
+    (Call::Rewant(9, 7, Newest, All), "2 72"),
     (Call::Put(10, 20, 9, All), "3 144"),
-    (Call::Turn(11, 10, All, TopicOnly), "1 0"),
-    (Call::Turn(12, 10, TopicOnly, All), "2 72"),
+    (Call::Rewant(11, 10, All, TopicOnly), "1 0"),
+    (Call::Rewant(12, 10, TopicOnly, All), "2 72"),
     (Call::Drain(1), ANNOUNCE),
     (Call::Put(13, 21, 10, All), "2 144"),
     (Call::Drain(1), "1 20 9;"),
-    (Call::Turn(14, 13, All, No), "0 0"),
-    (Call::Turn(15, 13, No, All), "1 72"),
+    (Call::Rewant(14, 13, All, No), "0 0"),
+    (Call::Rewant(15, 13, No, All), "1 72"),
     (Call::Drain(9), "1 21 10;"),
-    (Call::Turn(16, 13, All, Newest), "0 0"),
-    (Call::Turn(17, 13, Newest, All), "0 0"),
+    (Call::Rewant(16, 13, All, Newest), "0 0"),
+    (Call::Rewant(17, 13, Newest, All), "0 0"),
 ];
 
 /// Of two values at one place the later is handed, once; so with two changes of properties.
@@ -276,13 +297,13 @@ const TWICE: &[(Call, &str)] = &[
 /// A topic that was announced ends, is born again and is wanted then: one drain tells all of it.
 const REBIRTH: &[(Call, &str)] = &[
     (Call::Begin(1, No), "0 0"),
-    (Call::Turn(2, 0, No, Newest), "1 0"),
+    (Call::Rewant(2, 0, No, Newest), "1 0"),
     (Call::Drain(9), ANNOUNCE),
-    (Call::Turn(3, 0, Newest, No), "0 0"),
+    (Call::Rewant(3, 0, Newest, No), "0 0"),
     (Call::End(4), "1 64"),
     (Call::Begin(5, No), "1 64"),
     (Call::Put(6, 10, 7, No), "1 64"),
-    (Call::Turn(7, 6, No, Newest), "3 64"),
+    (Call::Rewant(7, 6, No, Newest), "3 64"),
     (Call::Drain(256), REBORN),
     (Call::End(8), "1 64"),
     (Call::Drain(256), GONE),
@@ -297,42 +318,50 @@ const REBORN: &str =
 const GONE: &str = r#"[{"method":"unannounce","params":{"id":2,"name":"/a"}}]"#;
 
 /// An answered publish counts as announced. A change of properties is told where the connection
-/// sent it or had the topic announced.
+/// sent it, had the topic announced or is owed an earlier one.
 const ANSWERS: &[(Call, &str)] = &[
     (Call::Begin(1, No), "0 0"),
-    (Call::OwnProps(2, r#"{"x":1}"#), "1 71"),
-    (Call::Props(3, r#"{"y":1}"#, No), "1 71"),
+    (Call::Props(2, r#"{"y":1}"#, No), "0 0"),
+    (Call::OwnProps(3, r#"{"x":1}"#), "1 71"),
     (Call::Own(4, 5), "2 135"),
-    (Call::Turn(5, 0, No, Newest), "2 135"),
-    (Call::Drain(256), ANSWERED),
-    (Call::Turn(6, 0, Newest, All), "0 0"),
-    (Call::Props(7, r#"{"x":null}"#, All), "1 74"),
-    (Call::Own(8, 6), "2 138"),
+    (Call::Rewant(5, 0, No, Newest), "2 135"),
+    (Call::Props(6, r#"{"y":2}"#, Newest), "3 206"),
+    (Call::Drain(1), OWN_CHANGED),
+    (Call::Drain(1), ANSWERED),
+    (Call::Drain(256), CHANGED_BEHIND),
+    (Call::Rewant(7, 0, Newest, All), "0 0"),
+    (Call::Props(8, r#"{"x":null}"#, All), "1 74"),
+    (Call::Own(9, 6), "2 138"),
     (Call::Drain(1), CHANGED),
     (Call::Drain(256), AGAIN),
 ];
 
+const OWN_CHANGED: &str =
+    r#"[{"method":"properties","params":{"ack":true,"name":"/a","update":{"x":1}}}]"#;
+
 const ANSWERED: &str =
-    r#"[{"method":"properties","params":{"ack":true,"name":"/a","update":{"x":1}}},{"method":"announce","params":{"id":1,"name":"/a","properties":{"x":1,"y":1},"pubuid":5,"type":"int"}}]"#;
+    r#"[{"method":"announce","params":{"id":1,"name":"/a","properties":{"x":1,"y":2},"pubuid":5,"type":"int"}}]"#;
+
+const CHANGED_BEHIND: &str = r#"[{"method":"properties","params":{"name":"/a","update":{"y":2}}}]"#;
 
 const CHANGED: &str = r#"[{"method":"properties","params":{"name":"/a","update":{"x":null}}}]"#;
 
 const AGAIN: &str =
-    r#"[{"method":"announce","params":{"id":1,"name":"/a","properties":{"y":1},"pubuid":6,"type":"int"}}]"#;
+    r#"[{"method":"announce","params":{"id":1,"name":"/a","properties":{"y":2},"pubuid":6,"type":"int"}}]"#;
 
 /// A meta topic is wanted under `All` as it is under `Newest`. Its value is owed where its bytes
 /// changed since it was handed, also while it wasn't wanted.
 const METAS: &[(Call, &str)] = &[
     (Call::Meta(1, 7, No), "0 0"),
-    (Call::MetaTurn(2, No, All), "2 0"),
+    (Call::MetaRewant(2, No, All), "2 0"),
     (Call::Drain(1), META_ANNOUNCE),
     (Call::Drain(256), "536870913 99 [7];"),
-    (Call::MetaTurn(3, All, Newest), "0 0"),
-    (Call::MetaTurn(4, Newest, No), "0 0"),
-    (Call::MetaTurn(5, No, Newest), "0 0"),
-    (Call::MetaTurn(6, Newest, No), "0 0"),
+    (Call::MetaRewant(3, All, Newest), "0 0"),
+    (Call::MetaRewant(4, Newest, No), "0 0"),
+    (Call::MetaRewant(5, No, Newest), "0 0"),
+    (Call::MetaRewant(6, Newest, No), "0 0"),
     (Call::Meta(7, 8, No), "0 0"),
-    (Call::MetaTurn(8, No, Newest), "1 0"),
+    (Call::MetaRewant(8, No, Newest), "1 0"),
     (Call::Meta(9, 9, Newest), "1 0"),
     (Call::Drain(256), "536870913 99 [9];"),
     (Call::Meta(10, 10, Newest), "1 0"),
@@ -346,10 +375,90 @@ const META_ANNOUNCE: &str =
 
 const META_GONE: &str = r#"[{"method":"unannounce","params":{"id":536870913,"name":"$clients"}}]"#;
 
+/// Of a topic that isn't cached each value is owed, also under `Newest`. What is queued stays with
+/// a wish that asks for values, and is lost with one that doesn't.
+const PASSING: &[(Call, &str)] = &[
+    (Call::Begin(1, No), "0 0"),
+    (Call::Props(2, r#"{"cached":false}"#, No), "0 0"),
+    (Call::Put(3, 9, 6, No), "0 0"),
+    (Call::Rewant(4, 3, No, Newest), "1 0"),
+    (Call::Put(5, 10, 7, Newest), "2 72"),
+    (Call::Put(6, 11, 8, Newest), "3 144"),
+    (Call::Drain(1), ANNOUNCE_PASSING),
+    (Call::Drain(256), "1 10 7;1 11 8;"),
+    (Call::Drain(256), ""),
+    (Call::Put(7, 12, 9, Newest), "1 72"),
+    (Call::Rewant(8, 7, Newest, All), "1 72"),
+    (Call::Put(9, 13, 10, All), "2 144"),
+    (Call::Rewant(10, 9, All, Newest), "2 144"),
+    (Call::Drain(1), "1 12 9;"),
+    (Call::Rewant(11, 9, Newest, TopicOnly), "0 0"),
+    (Call::Put(12, 14, 11, TopicOnly), "0 0"),
+    (Call::Rewant(13, 12, TopicOnly, All), "0 0"),
+    (Call::Put(14, 15, 12, All), "1 72"),
+    (Call::Rewant(15, 14, All, No), "0 0"),
+    (Call::Rewant(16, 14, No, Newest), "0 0"),
+    (Call::Put(17, 16, 13, Newest), "1 72"),
+    (Call::Drain(256), "1 16 13;"),
+];
+
+const ANNOUNCE_PASSING: &str =
+    r#"[{"method":"announce","params":{"id":1,"name":"/a","properties":{"cached":false},"type":"int"}}]"#;
+
+/// Values that are owed one by one come by place, and then those under `Newest`, by id.
+const AMONG: &[(Call, &str)] = &[
+    (Call::Begin(1, Newest), "1 0"),
+    (Call::Of("/b", 2), "1 0"),
+    (Call::Begin(2, All), "2 0"),
+    (Call::Of("/c", 3), "2 0"),
+    (Call::Begin(3, No), "2 0"),
+    (Call::Props(4, r#"{"cached":false}"#, No), "2 0"),
+    (Call::Rewant(5, 0, No, Newest), "3 0"),
+    (Call::Put(6, 20, 1, Newest), "4 72"),
+    (Call::Of("/b", 2), "4 72"),
+    (Call::Put(7, 10, 2, All), "5 144"),
+    (Call::Of("/a", 1), "5 144"),
+    (Call::Put(8, 5, 3, Newest), "6 144"),
+    (Call::Of("/c", 3), "6 144"),
+    (Call::Put(9, 21, 4, Newest), "7 216"),
+    (Call::Drain(1), ANNOUNCE),
+    (Call::Drain(1), ANNOUNCE_B),
+    (Call::Drain(1), ANNOUNCE_C),
+    (Call::Drain(256), "3 20 1;2 10 2;3 21 4;1 5 3;"),
+];
+
+const ANNOUNCE_B: &str =
+    r#"[{"method":"announce","params":{"id":2,"name":"/b","properties":{},"type":"int"}}]"#;
+
+const ANNOUNCE_C: &str =
+    r#"[{"method":"announce","params":{"id":3,"name":"/c","properties":{"cached":false},"type":"int"}}]"#;
+
+/// Where it changed whether a topic is cached, no value of it is owed any more. Of a topic that
+/// isn't there nothing is owed.
+const TURNED: &[(Call, &str)] = &[
+    (Call::Turned(1, 1), "0 0"),
+    (Call::Begin(2, Newest), "1 0"),
+    (Call::Put(3, 10, 7, Newest), "2 0"),
+    (Call::Turned(4, 2), "2 0"),
+    (Call::Turned(5, 1), "1 0"),
+    (Call::Props(5, r#"{"cached":false}"#, Newest), "1 0"),
+    (Call::Put(6, 11, 8, Newest), "2 72"),
+    (Call::Put(7, 12, 9, Newest), "3 144"),
+    (Call::Turned(8, 1), "1 0"),
+    (Call::Props(8, r#"{"cached":null}"#, Newest), "1 0"),
+    (Call::Rewant(9, 0, Newest, All), "1 0"),
+    (Call::Put(10, 13, 10, All), "2 72"),
+    (Call::Turned(11, 1), "1 0"),
+    (Call::Drain(256), ANNOUNCE),
+    (Call::Props(11, r#"{"cached":false}"#, All), "1 80"),
+];
+
 #[test]
 fn owes_and_hands(rt: HostRuntime) -> Result<(), Fail> {
     let alloc = rt.alloc();
-    for rows in [NEWEST, ALL, TWICE, REBIRTH, ANSWERS, METAS] {
+    for rows in [
+        NEWEST, ALL, TWICE, REBIRTH, ANSWERS, METAS, PASSING, AMONG, TURNED,
+    ] {
         let mut desk = Desk::new(alloc);
         for (call, wanted) in rows {
             let answer = desk.answer(alloc, call)?;
@@ -371,7 +480,7 @@ fn put_bytes(
     let outcome = table.put(alloc, OTHER, 1, 0, value)?;
     if let Outcome::Done(changes) = &outcome {
         for change in changes.as_slice() {
-            outbox.note(alloc, place, change, Wanted::All)?;
+            outbox.note(alloc, place, change, true, Wanted::All)?;
         }
     }
     Ok(())
@@ -406,7 +515,9 @@ fn falls_behind_past_the_limit(rt: HostRuntime) -> Result<(), Fail> {
     assert_eq!(rt; weights(alloc, &outbox)?.as_str(), "64 8261568");
     put_bytes(alloc, &mut table, &mut outbox, 64, 131_072)?;
     assert_eq!(rt; weights(alloc, &outbox)?.as_str(), "0 0 behind 8392704");
-    put_bytes(alloc, &mut table, &mut outbox, 65, 131_072)?;
+    outbox.turned(65, 1);
+    assert_eq!(rt; weights(alloc, &outbox)?.as_str(), "0 0 behind 8392704");
+    put_bytes(alloc, &mut table, &mut outbox, 66, 131_072)?;
     assert_eq!(rt; weights(alloc, &outbox)?.as_str(), "0 0 behind 8392704");
     Ok(())
 }

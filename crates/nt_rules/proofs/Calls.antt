@@ -14,8 +14,8 @@ use Rattle.nt_rules.specs.declared.topic.Cause.{Cause}
 use Rattle.nt_rules.specs.declared.topic.Cause.TheVariants.{Special, UidInUse, PubsFull, PropsFull, TopicsFull, IdsSpent, NoSuchUid, NoTopic}
 use Rattle.nt_rules.specs.declared.topic.Outcome.{Outcome}
 use Rattle.nt_rules.specs.declared.topic.Outcome.TheVariants.{Done, Ignored}
-use Rattle.nt_rules.specs.topics.Topics.{if_counts, change_first, change_at, left_of, is_named, has_publisher, publishers_of, is_too_long, room_cause, new_cause, publish_cause, published, with_publisher, new_topic, next_after, unpublish_cause, unpublished, without_publisher, update_cause, update_cause_at, with_props, with_update, put_cause, put_cause_at, put_cause_to, with_put, with_value}
-use Rattle.nt_rules.specs.topics.Changes.{outcome_of, told_by, publish_changes, unpublish_changes, update_changes, put_changes, end_of, update_change, put_change}
+use Rattle.nt_rules.specs.topics.Topics.{if_counts, change_first, change_at, if_it_lives_on, is_named, has_publisher, publishers_of, is_too_long, room_cause, new_cause, publish_cause, published, with_publisher, new_topic, next_after, unpublish_cause, unpublished, without_publisher, update_cause, update_cause_at, with_props, with_update, put_cause, put_cause_at, put_cause_to, with_put, with_value}
+use Rattle.nt_rules.specs.topics.Changes.{outcome_of, if_found, publish_changes, unpublish_changes, update_changes, put_changes, end_of, update_change, put_change}
 use Rattle.nt_rules.proofs.Positions.{IsFirst, change-set, change-first, set-change, set-counts, any-first, find-first, find-none}
 
 -- a call that is refused answers the cause
@@ -51,9 +51,9 @@ on-ok-2 (Err e) f h k = h
 -- the first topic that passes is changed, and taken out where nothing of it is left
 pub settled-first : (test : Topic → Bool) (g : Topic → Topic) (ts : List Topic) (i : ℕ) (r y : Topic)
     → IsFirst test ts i r
-    → y ≡ g r → change_at left_of i (set ts i y) ≡ change_first test (λ t. left_of (g t)) ts
+    → y ≡ g r → change_at if_it_lives_on i (set ts i y) ≡ change_first test (λ t. if_it_lives_on (g t)) ts
 settled-first test g ts i r y h e =
-    change-set left_of g ts i r y h.item e ∙ change-first test (λ t. left_of (g t)) ts i r h
+    change-set if_it_lives_on g ts i r y h.item e ∙ change-first test (λ t. if_it_lives_on (g t)) ts i r h
 
 -- where a new topic isn't refused, its id isn't past the last one
 pub next-within : (ts : List Topic) (next conn : ℕ) (uid : ℤ) (name : List ℕ) (props : Data)
@@ -151,11 +151,11 @@ module _ (ts : List Topic) (conn : ℕ) (uid : ℤ) where
 
     pub unpublished-changes : end_of (without_publisher conn uid r) ≡ unpublish_changes ts conn uid
     unpublished-changes =
-        sym (ap (told_by (λ t. end_of (without_publisher conn uid t)))
+        sym (ap (if_found (λ t. end_of (without_publisher conn uid t)))
         (find-first (has_publisher conn uid) ts i r first))
 
     pub unpublished-topics : (y : Topic) → y ≡ without_publisher conn uid r
-        → change_at left_of i (set ts i y) ≡ unpublished ts conn uid
+        → change_at if_it_lives_on i (set ts i y) ≡ unpublished ts conn uid
     unpublished-topics y e = settled-first (has_publisher conn uid) (without_publisher conn uid) ts i r y first e
 
 -- ---- properties
@@ -173,9 +173,10 @@ module _ (ts : List Topic) (name : List ℕ) (u : Data) where
         ap (update_cause_at u) (find-first (is_named name) ts i r first) ∙ ap (λ b. cond b (Some PropsFull) None) e
 
     pub updated-changes : update_change u r ≡ update_changes ts name u
-    updated-changes = sym (ap (told_by (update_change u)) (find-first (is_named name) ts i r first))
+    updated-changes = sym (ap (if_found (update_change u)) (find-first (is_named name) ts i r first))
 
-    pub updated-topics : (y : Topic) → y ≡ with_update u r → change_at left_of i (set ts i y) ≡ with_props ts name u
+    pub updated-topics : (y : Topic) → y ≡ with_update u r → change_at if_it_lives_on i (set ts i y)
+        ≡ with_props ts name u
     updated-topics y e = settled-first (is_named name) (with_update u) ts i r y first e
 
 -- ---- put
@@ -192,7 +193,7 @@ module _ (ts : List Topic) (conn : ℕ) (uid : ℤ) (time : ℕ) (value : Value)
         → IfOk result (λ o. o ≡ outcome_of (put_cause ts conn uid time value) (put_changes ts conn uid time value))
     put-answer result h =
         subst (λ found. IfOk result (λ o. o
-        ≡ outcome_of (put_cause_at conn uid time value found) (told_by (put_change time value) found)))
+        ≡ outcome_of (put_cause_at conn uid time value found) (if_found (put_change time value) found)))
         (sym (find-first (has_publisher conn uid) ts i r first)) h
 
     pub put-topics : {E : Type 0} (result : Result Outcome E) (y : Topic)

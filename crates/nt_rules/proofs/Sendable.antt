@@ -14,6 +14,7 @@ use Rattle.nt_rules.specs.contracts.topic.Saved as saved
 use Rattle.nt_rules.specs.contracts.topic.Change as change
 use Rattle.nt_rules.specs.contracts.topic.Outcome as outcome
 use Rattle.nt_rules.specs.contracts.batch.Batch as batch
+use Rattle.nt_rules.specs.contracts.held.Held as held
 use Rattle.nt_rules.specs.contracts.meta.MetaNow as meta
 use Rattle.nt_rules.specs.contracts.roster.Roster as roster
 use Rattle.nt_rules.specs.contracts.roster.PubRow as pub_row
@@ -43,6 +44,10 @@ topic_send =
 
 pub saved_send : IsSend saved.the_row
 saved_send = search (limited_send, props_send, value_send, heap.crosses, crosses, sendable) depth 60 fits 20000
+
+pub held_send : IsSend held.the_row
+held_send =
+    search (name_send, limited_send, props_send, timed_send, heap.crosses, crosses, sendable) depth 60 fits 20000
 
 pub change_send : IsSend change.the_row
 change_send =

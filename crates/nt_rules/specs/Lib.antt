@@ -4,3 +4,4 @@ pub mod topics
 pub mod meta
 pub mod outbox
 pub mod history
+pub mod telling

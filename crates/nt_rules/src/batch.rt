@@ -25,7 +25,7 @@ impl Batch {
         }
     }
 
-    /// An equal batch. It fails for want of memory alone.
+    /// An equal batch.
     pub fn copy(&self, alloc: Global) -> Result<Batch, AllocError>
         ensures { IfOk result (λ batch. batch ≡ self.now) }
     {

@@ -4,6 +4,7 @@
 
 mod act;
 mod batch;
+mod held;
 mod limits;
 mod meta;
 mod roster;
@@ -14,6 +15,7 @@ mod waiting;
 
 pub use act::{Act, Deed, Entry, Msg, StepOut};
 pub use batch::{Batch, Reply};
+pub use held::Held;
 pub use limits::{
     FIRST_META, LAST_CONNECTION, LAST_ID, MOST_BYTES, MOST_PROPERTIES, MOST_PUBLISHERS,
     MOST_TOPICS, MOST_VALUE, MOST_WEIGHT,

@@ -54,7 +54,7 @@ pub enum Change {
         typ: TypeName,
         props: Props,
     },
-    /// It holds a new value, with a time in microseconds.
+    /// A value of it was taken, with a time in microseconds.
     Changed {
         id: i64,
         name: Name,
@@ -75,7 +75,7 @@ pub enum Change {
 }
 
 impl Change {
-    /// An equal change. It fails for want of memory alone.
+    /// An equal change.
     pub fn copy(&self, alloc: Global) -> Result<Change, AllocError>
         ensures { IfOk result (λ change. change ≡ self.now) }
     {

@@ -1,25 +1,30 @@
 -- What counts and what doesn't.
-use Rattle.std.proofs.Common.{◌≡◌, ℕ, ℤ, true, cond, List, [], Option, Some, None, Result, Ok, Err, OnOk, refl, sym, ◌∙◌, ap}
+use Rattle.std.proofs.Common.{◌≡◌, ℕ, ℤ, Bool, true, false, cond, not, List, [], Option, option_map, Some, None, Result, Ok, Err, OnOk, map, refl, sym, ◌∙◌, ap}
+use Rattle.std.specs.List.{find}
+use Rattle.nt_topics.specs.Properties.{is_cached}
 use Rattle.nt_rules.specs.declared.topic.Cause.{Cause}
 use Rattle.nt_rules.specs.declared.topic.Change.{Change}
 use Rattle.nt_rules.specs.declared.topic.Topic.{Topic}
 use Rattle.nt_rules.specs.declared.topic.Outcome.{Outcome}
 use Rattle.nt_rules.specs.declared.topic.Outcome.TheVariants.{Done, Ignored}
 use Rattle.nt_rules.specs.declared.meta.MetaNow.{MetaNow}
+use Rattle.nt_rules.specs.declared.taken.Taken.{Taken}
 use Rattle.nt_rules.specs.declared.act.StepOut.TheVariants as out
 use Rattle.nt_values.specs.declared.value.Value.{Value}
 use Rattle.nt_frames.specs.declared.message.ValueMsg.{ValueMsg}
 use Rattle.nt_control.specs.declared.message.ClientMsg.{ClientMsg}
-use Rattle.nt_rules.specs.topics.Topics.{TableState, if_counts, with_put}
+use Rattle.nt_control.specs.declared.message.ClientMsg.TheVariants.{Publish, Unpublish, SetProps, Subscribe, Unsubscribe}
+use Rattle.nt_rules.specs.topics.Topics.{TableState, if_counts, is_named, with_put}
 use Rattle.nt_rules.specs.topics.Changes.{outcome_of}
 use Rattle.nt_rules.specs.declared.act.Msg.{Msg}
 use Rattle.nt_rules.specs.declared.act.Msg.TheVariants.{Control, Put}
 use Rattle.nt_rules.specs.declared.topic.Cause.TheVariants.{NoConn}
 use Rattle.nt_rules.specs.history.Now.{said_cause}
 use Rattle.nt_rules.specs.history.Answer.{said_out}
-use Rattle.nt_rules.specs.history.State.{State, serves, subs_at, cause_at, said_to, topics_said, next_said, changes_said, counted, if_taken, if_counted, metas_kept}
+use Rattle.nt_rules.specs.history.State.{Open, State, serves, subs_at, cause_at, said_to, topics_said, next_said, changes_said, counted, if_structural, refreshed, message_noted, turn_noted, turned_of, turned_id, taken_after, if_taken, if_counted, open_metas}
 use Rattle.nt_server.specs.declared.inner.Inner.{Inner}
-use Rattle.nt_server.specs.View.{IsKept, IsKeptAfter, settled}
+use Rattle.nt_server.specs.Connections.{Connections}
+use Rattle.nt_server.specs.View.{IsKept, IsKeptAfter, cached_of, turned_one, turned_since, settled}
 use Rattle.nt_server.proofs.RosterRows.{metas_put}
 
 -- what an outcome answers, and the changes that were made
@@ -42,50 +47,122 @@ counts-same (Some cause) x = refl
 abbrev pub with_topics : Option Cause → List Topic → ℕ → State → State
 with_topics cause ts next s = record s { topics = if_counts cause ts s.topics; next = if_counts cause next s.next }
 
+-- the topic that a message turned is known by whether it was cached before
+turned-known : (before after : List Topic) (m : Msg) → turned_since (cached_of before m) after m
+    ≡ turned_id before after m
+turned-known before after (Put v) = refl
+turned-known before after (Control (Publish name uid typ props)) = refl
+turned-known before after (Control (Unpublish uid)) = refl
+turned-known before after (Control (Subscribe uid sub)) = refl
+turned-known before after (Control (Unsubscribe uid)) = refl
+turned-known before after (Control (SetProps name update)) = by (find (is_named name) before)
+    (find (is_named name) after)
+  where
+    differs : (now : Bool) (id : ℕ) → cond now None (Some id) ≡ cond (not now) (Some id) None
+    differs true id = refl
+    differs false id = refl
+
+    one : (was : Bool) (t : Topic)
+        → turned_one (Some was) (Some t) ≡ cond (cond was (not (is_cached t.props)) (is_cached t.props)) (Some t.id)
+        None
+    one true t = differs (is_cached t.props) t.id
+    one false t = refl
+
+    none : (was : Bool) → turned_one (Some was) None ≡ None
+    none true = refl
+    none false = refl
+
+    by : (b a : Option Topic) → turned_one (option_map (λ t. is_cached t.props) b) a ≡ turned_of b a
+    by None None = refl
+    by None (Some t) = refl
+    by (Some u) None = none (is_cached u.props)
+    by (Some u) (Some t) = one (is_cached u.props) t
+
 -- a message to a topic that was told is one that counted
-pub settled_said : (cause : Option Cause) (s : State) (before : List MetaNow) (place conn : ℕ) (m : Msg) (o : Outcome)
-    → before ≡ metas_kept s.opens s.topics → o ≡ outcome_of cause (changes_said s.topics s.next conn m)
-    → settled before place conn m o
+pub settled_said : (cause : Option Cause) (s : State) (before : List MetaNow) (cached : Option Bool) (place conn : ℕ)
+    (m : Msg) (o : Outcome) → before ≡ open_metas s.opens s.topics → cached ≡ cached_of s.topics m
+    → o ≡ outcome_of cause (changes_said s.topics s.next conn m)
+    → settled before cached place conn m o
     (with_topics cause (topics_said s.topics s.next conn m) (next_said s.topics s.next m) s)
     ≡ if_taken cause (counted s place conn m) s
-settled_said None s before place conn m o k e =
-    ap (λ o. settled before place conn m o
+settled_said None s before cached place conn m o k known e =
+    ap (λ o. settled before cached place conn m o
     (with_topics None (topics_said s.topics s.next conn m) (next_said s.topics s.next m) s)) e
-    ∙ ap (λ ms. settled ms place conn m (Done (changes_said s.topics s.next conn m))
+    ∙ ap (λ ms. settled ms cached place conn m (Done (changes_said s.topics s.next conn m))
     (with_topics None (topics_said s.topics s.next conn m) (next_said s.topics s.next m) s)) k
-    ∙ by m
+    ∙ ap (λ c. settled (open_metas s.opens s.topics) c place conn m (Done (changes_said s.topics s.next conn m))
+    (with_topics None (topics_said s.topics s.next conn m) (next_said s.topics s.next m) s)) known
+    ∙ ap turned (turned-known s.topics (topics_said s.topics s.next conn m) m)
   where
-    by : (m : Msg) → settled (metas_kept s.opens s.topics) place conn m (Done (changes_said s.topics s.next conn m))
-        (with_topics None (topics_said s.topics s.next conn m) (next_said s.topics s.next m) s)
-        ≡ counted s place conn m
-    by (Control c) = refl
-    by (Put v) = refl
-settled_said (Some cause) s before place conn m o k e =
-    ap (λ o. settled before place conn m o
+    turned : Option ℕ → State
+    turned id =
+        let ts = topics_said s.topics s.next conn m in
+        let changes = changes_said s.topics s.next conn m in
+        record s {
+          opens = if_structural m place (open_metas s.opens s.topics) ts
+              (map (λ o. message_noted place ts conn m changes (turn_noted place id o)) s.opens);
+          topics = ts;
+          next = next_said s.topics s.next m;
+          taken = taken_after place ts changes s.taken;
+        }
+settled_said (Some cause) s before cached place conn m o k known e =
+    ap (λ o. settled before cached place conn m o
     (with_topics (Some cause) (topics_said s.topics s.next conn m) (next_said s.topics s.next m) s)) e
+
+-- a control message that counted, where the topic that it turned and then its changes were told, and then what is different
+-- of the meta topics
+pub settled-done : (before : List MetaNow) (cached : Option Bool) (place conn : ℕ) (m : Msg) (said : ClientMsg)
+    (o : Outcome) (changes : List Change) (s : State) (turned : Option ℕ) (told new : Connections) (taken : List Taken)
+    → m ≡ Control said → o ≡ Done changes → turned ≡ turned_since cached s.topics m
+    → told ≡ record {
+      opened = s.opened;
+      opens = map (λ o. message_noted place s.topics conn m changes (turn_noted place turned o)) s.opens;
+    }
+    → new ≡ record told { opens = refreshed place before s.topics told.opens }
+    → taken ≡ taken_after place s.topics changes s.taken
+    → record s { opened = new.opened; opens = new.opens; taken = taken } ≡ settled before cached place conn m o s
+settled-done before cached place conn m said o changes s turned told new taken m_is o_is turned_is told_is new_is taken_is =
+    ap (λ (k : Connections). record s { opened = k.opened; opens = k.opens; taken = taken }) new_is
+    ∙ ap (λ (k : Connections). with_opens k.opened (refreshed place before s.topics k.opens) taken) told_is
+    ∙ ap (with_opens s.opened (refreshed place before s.topics (tell turned))) taken_is
+    ∙ ap (λ t. with_opens s.opened (refreshed place before s.topics (tell t)) all) turned_is
+    ∙ ap (λ os. with_opens s.opened os all)
+    (sym (ap (λ n. if_structural n place before s.topics (tell (turned_since cached s.topics m))) m_is))
+    ∙ sym (ap (λ o. settled before cached place conn m o s) o_is)
+  where
+    all : List Taken
+    all = taken_after place s.topics changes s.taken
+
+    tell : Option ℕ → List Open
+    tell t = map (λ o. message_noted place s.topics conn m changes (turn_noted place t o)) s.opens
+
+    with_opens : ℕ → List Open → List Taken → State
+    with_opens n os t = record s { opened = n; opens = os; taken = t }
 
 -- what an open connection said to a topic, once it was told
 pub said-settled : {E : Type 0} (r : Result Outcome E) (cause : Option Cause) (s new : State) (t : TableState)
-    (before : List MetaNow) (worker place conn : ℕ) (m : Msg) (o : Outcome) → serves s.opens worker conn ≡ true
+    (before : List MetaNow) (cached : Option Bool) (worker place conn : ℕ) (m : Msg) (o : Outcome)
+    → serves s.opens worker conn ≡ true
     → said_cause s.topics s.next (subs_at s.opens conn) conn m ≡ cause
-    → said_to s place conn m ≡ counted s place conn m → before ≡ metas_kept s.opens s.topics
-    → o ≡ outcome_of cause (changes_said s.topics s.next conn m)
+    → said_to s place conn m ≡ counted s place conn m → before ≡ open_metas s.opens s.topics
+    → cached ≡ cached_of s.topics m → o ≡ outcome_of cause (changes_said s.topics s.next conn m)
     → t.topics ≡ if_counts cause (topics_said s.topics s.next conn m) s.topics
     → t.next ≡ if_counts cause (next_said s.topics s.next m) s.next
-    → OnOk r (new ≡ settled before place conn m o (record s { topics = t.topics; next = t.next }))
+    → OnOk r (new ≡ settled before cached place conn m o (record s { topics = t.topics; next = t.next }))
     → OnOk r (new ≡ if_taken (cause_at s worker conn m) (said_to s place conn m) s)
-said-settled (Ok x) cause s new t before worker place conn m o served is said kept answer topics next h =
+said-settled (Ok x) cause s new t before cached worker place conn m o served is said kept known answer topics next h =
     h
-    ∙ ap (λ ts. settled before place conn m o (record s { topics = ts; next = t.next })) topics
-    ∙ ap (λ n. settled before place conn m o (record s {
+    ∙ ap (λ ts. settled before cached place conn m o (record s { topics = ts; next = t.next })) topics
+    ∙ ap (λ n. settled before cached place conn m o (record s {
       topics = if_counts cause (topics_said s.topics s.next conn m) s.topics;
       next = n;
     })) next
-    ∙ settled_said cause s before place conn m o kept answer
+    ∙ settled_said cause s before cached place conn m o kept known answer
     ∙ ap (λ after. if_taken cause after s) (sym said)
     ∙ ap (λ why. if_taken why (said_to s place conn m) s)
     (sym (ap (λ b. cond b (said_cause s.topics s.next (subs_at s.opens conn) conn m) (Some NoConn)) served ∙ is))
-said-settled (Err error) cause s new t before worker place conn m o served is said kept answer topics next h = tt
+said-settled (Err error) cause s new t before cached worker place conn m o served is said kept known answer topics next
+    h = tt
 
 -- the meta topics are kept after a control message that is refused
 pub kept-control : (changes : List Change) (ts : List Topic) (cause : Option Cause) (m : ClientMsg) (o : Outcome)
@@ -95,7 +172,7 @@ kept-control changes ts None m (Done made) i t k e topics = tt
 kept-control changes ts None m (Ignored why) i t k e topics = absurd (cc)
 kept-control changes ts (Some cause) m (Done made) i t k e topics = tt
 kept-control changes ts (Some cause) m (Ignored why) i t k e topics =
-    record { metas_are = k.metas_are ∙ sym (ap (λ ts. metas_kept i.connections.opens ts) topics) }
+    record { metas_are = k.metas_are ∙ sym (ap (λ ts. open_metas i.connections.opens ts) topics) }
 
 -- and after a put
 pub kept-put : (cause : Option Cause) (v : ValueMsg) (o : Outcome) (i : Inner) (t : TableState) (conn : ℕ) (uid : ℤ)
@@ -107,7 +184,7 @@ kept-put None v o i t conn uid time value k topics =
       metas_are =
           k.metas_are
           ∙ sym (metas_put conn uid time value i.table.topics i.connections.opens)
-          ∙ sym (ap (λ ts. metas_kept i.connections.opens ts) topics);
+          ∙ sym (ap (λ ts. open_metas i.connections.opens ts) topics);
     }
 kept-put (Some cause) v o i t conn uid time value k topics =
-    record { metas_are = k.metas_are ∙ sym (ap (λ ts. metas_kept i.connections.opens ts) topics) }
+    record { metas_are = k.metas_are ∙ sym (ap (λ ts. open_metas i.connections.opens ts) topics) }

@@ -1,12 +1,12 @@
 -- The open connections by their numbers.
-use Rattle.std.proofs.Common.{◌≡◌, ◌≤◌, ◌<◌, ◌+◌, ◌==◌, ℕ, zero, suc, Bool, true, false, cond, not, eqb, ◌||◌, ◌&&◌, List, [], ◌∷◌, ◌++◌, Option, Some, None, Result, Ok, Err, length, get_or, slice_get, set, map, filter, nat_cmp, refl, sym, ◌∙◌, ap, subst, arith, tests}
+use Rattle.std.proofs.Common.{◌≡◌, ◌≤◌, ◌<◌, ◌+◌, ◌==◌, ℕ, zero, suc, Bool, true, false, cond, not, eqb, ◌||◌, ◌&&◌, List, [], ◌∷◌, ◌++◌, Option, Some, None, Result, Ok, Err, length, get_or, set, map, nat_cmp, refl, sym, ◌∙◌, ap, subst, arith, tests}
 use Rattle.std.specs.Prelude.{remove, MatchResult}
-use Rattle.std.specs.List.{find, list_any}
+use Rattle.std.specs.List.{list_any}
 use Rattle.std.specs.List.Sorted.{IsBinarySearchResult, IsSearchInRange}
 use Rattle.std.proofs.lemmas.Bool.Decides.{nat_tests}
 use Rattle.nt_rules.specs.outbox.Calls.{OutboxState, nothing_owed, behind, drained}
 use Rattle.nt_rules.specs.Sorted.{RisesFrom, AreBelow, IsFoundAt, IsMissedAt}
-use Rattle.nt_rules.proofs.Search.{searched, within-found, any-missed, filter-found, map-found, rises-weaker, rises-append, rises-filter, rises-map, below-weaker, below-append, below-filter, below-map}
+use Rattle.nt_rules.proofs.Search.{searched, within-found, any-missed, filter-found, map-found, rises-append, rises-filter, rises-map, below-weaker, below-append, below-filter, below-map}
 use Rattle.nt_rules.proofs.Positions.{set-change}
 use Rattle.nt_rules.specs.history.State.{Open, is_number, serves, subs_at, outbox_at, with_outbox, drained_by, drained_from}
 use Rattle.nt_rules.specs.declared.batch.Batch.{Batch}

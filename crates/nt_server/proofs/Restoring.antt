@@ -1,15 +1,14 @@
 -- A saved set is restored topic by topic, and none is refused.
-use Rattle.std.proofs.Common.{◌≡◌, ◌≤◌, ◌+◌, ℕ, Bool, true, false, ◌||◌, List, [], ◌∷◌, ◌++◌, Option, Some, None, option_map, length, length-append, refl, sym, ◌∙◌, ap, append_assoc, bytes_eq, arith}
+use Rattle.std.proofs.Common.{◌≡◌, ◌≤◌, ◌+◌, ℕ, Bool, true, false, ◌||◌, List, [], ◌∷◌, ◌++◌, length, length-append, refl, sym, ◌∙◌, ap, append_assoc, bytes_eq, arith}
 use Rattle.std.specs.List.{list_any, AllByRecursion}
 use Rattle.std.proofs.lemmas.List.Folds.{list_any-append}
 use Rattle.std.proofs.lemmas.Cmp.{nat_list_eq_equiv}
-use Rattle.nt_values.specs.declared.value.Value.{Value}
 use Rattle.nt_rules.specs.declared.topic.Topic.{Topic}
 use Rattle.nt_rules.specs.declared.topic.Saved.{Saved}
-use Rattle.nt_rules.specs.topics.Topics.{is_named, at_zero, restored_topic, restored as restored_in}
-use Rattle.nt_rules.specs.topics.Puts.{timed, greatest}
-use Rattle.nt_rules.specs.history.Lives.{topics, topic_of, restored_life, restored_put, restored}
+use Rattle.nt_rules.specs.topics.Topics.{is_named, restored_topic, restored as restored_in}
+use Rattle.nt_rules.specs.history.Lives.{topics, restored}
 use Rattle.nt_rules.specs.history.Saved.{HasDistinctNames, IsRestorable, IsSavedSet}
+use Rattle.nt_laws.proofs.topics.TopicLaws.{topic-restored}
 
 -- the topics so far and those that follow are all that were saved
 pub record IsRestoring (ts : List Topic) (next : ℕ) (rest saved : List Saved) : Type 0 where
@@ -37,16 +36,6 @@ restoring-start saved h =
       each = h.each;
     }
 
--- a saved topic that was restored is the topic of its life
-life-topic : (id : ℕ) (s : Saved) → topic_of (restored_life id s) ≡ restored_topic id s
-life-topic id s =
-    ap (λ v. record { id = id; name = s.name; typ = s.typ; props = s.props; value = v; pubs = [] })
-    (by s.value)
-  where
-    by : (o : Option Value) → option_map timed (greatest (restored_put o)) ≡ option_map at_zero o
-    by None = refl
-    by (Some v) = refl
-
 neither : (a b : Bool) → (a || b) ≡ false → (a ≡ false) × (b ≡ false)
 neither false b e = (refl, e)
 neither true b e = absurd (cc)
@@ -72,7 +61,7 @@ restoring-more ts next s rest saved h =
     record {
       topics_are =
           append_assoc ts (restored_topic next s ∷ []) (topics (restored (next + 1) rest))
-          ∙ ap (λ t. ts ++ t ∷ topics (restored (next + 1) rest)) (sym (life-topic next s))
+          ∙ ap (λ t. ts ++ t ∷ topics (restored (next + 1) rest)) (sym (topic-restored next s h.each.0.held))
           ∙ h.topics_are;
       next_is = let k : next + length (s ∷ rest) ≡ length saved + 1 = h.next_is in omega arith;
       count_is = omega (arith, length-append ts (restored_topic next s ∷ []), h.count_is);

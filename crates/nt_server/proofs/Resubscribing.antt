@@ -1,5 +1,5 @@
 -- A connection that has other subscriptions.
-use Rattle.std.proofs.Common.{◌≡◌, ℕ, List, map, get_or, set, refl, sym, ◌∙◌, ap}
+use Rattle.std.proofs.Common.{◌≡◌, ℕ, List, map, get_or, set, sym, ◌∙◌, ap}
 use Rattle.nt_subs.specs.Subscriptions.{Subs}
 use Rattle.nt_subs.specs.Wishes.{wanted}
 use Rattle.nt_rules.specs.Sorted.{IsFoundAt}
@@ -7,7 +7,7 @@ use Rattle.nt_rules.proofs.Search.{key-found}
 use Rattle.nt_rules.specs.declared.meta.MetaNow.{MetaNow}
 use Rattle.nt_rules.specs.declared.taken.Taken.{Taken}
 use Rattle.nt_rules.specs.declared.topic.Topic.{Topic}
-use Rattle.nt_rules.specs.history.State.{Open, subs_at, with_outbox, with_subs_of, rewanted_all, meta_rewanted_all, rewanting, metas_kept, differences, told_differences}
+use Rattle.nt_rules.specs.history.State.{Open, subs_at, with_outbox, with_subs_of, rewanted_all, meta_rewanted_all, rewanting, open_metas, differences, noted_differences}
 use Rattle.nt_server.specs.Connections.{number, resubscribed}
 use Rattle.nt_server.proofs.Numbers.{subs_found, set-mapped, found-set}
 use Rattle.nt_server.proofs.RosterRows.{IsRenewed, renewed}
@@ -21,7 +21,7 @@ retold place taken ts ms old o =
 -- all are told what is different of the meta topics
 abbrev pub told_metas : ℕ → List MetaNow → List MetaNow → List Open → List Open
 told_metas place before after os =
-    map (λ o. with_outbox (told_differences place (wanted o.subs) (differences before after) o.outbox) o) os
+    map (λ o. with_outbox (noted_differences place (wanted o.subs) (differences before after) o.outbox) o) os
 
 -- what a connection is after each of these steps
 pub record AreSteps (place conn i : ℕ) (before after ms : List MetaNow) (taken : List Taken) (ts : List Topic)
@@ -30,7 +30,7 @@ pub record AreSteps (place conn i : ℕ) (before after ms : List MetaNow) (taken
   pub at : o ≡ get_or os i o
   pub given : p ≡ record o { subs = subs }
   pub had : old ≡ o.subs
-  pub after_is : after ≡ metas_kept (set os i p) ts
+  pub after_is : after ≡ open_metas (set os i p) ts
   pub handed : ms ≡ after
   pub there : q ≡ get_or (set os i p) i q
   pub retold_is : r ≡ retold place taken ts ms old q
@@ -39,7 +39,7 @@ pub record AreSteps (place conn i : ℕ) (before after ms : List MetaNow) (taken
 pub record IsResubscribed (place conn : ℕ) (before after : List MetaNow) (taken : List Taken) (ts : List Topic)
     (subs : Subs) (os told : List Open) : Type 0 where
   pub opens_are : told ≡ resubscribed place before taken ts conn subs os
-  pub metas_are : after ≡ metas_kept told ts
+  pub metas_are : after ≡ open_metas told ts
 
 pub resubscribing : (place conn i : ℕ) (before after ms : List MetaNow) (taken : List Taken) (ts : List Topic)
     (subs old : Subs) (os : List Open) (o p q r : Open) (told : List Open)
@@ -71,4 +71,4 @@ resubscribing place conn i before after ms taken ts subs old os o p q r told h =
     made : IsRenewed place before taken ts conn (subs_at os conn) others after told
     made =
         renewed place before taken ts conn (subs_at os conn) others after (set (set os i p) i r) told
-        (h.after_is ∙ ap (λ (os : List Open). metas_kept os ts) changed) wanting h.told_is
+        (h.after_is ∙ ap (λ (os : List Open). open_metas os ts) changed) wanting h.told_is

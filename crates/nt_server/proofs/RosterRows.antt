@@ -1,7 +1,8 @@
 -- The rows that the meta topics tell of, and what changes nothing of them.
-use Rattle.std.proofs.Common.{◌≡◌, ℕ, ℤ, Bool, true, false, cond, List, [], ◌∷◌, ◌++◌, Some, filter, map, refl, sym, ◌∙◌, ap}
+use Rattle.std.proofs.Common.{◌≡◌, ℕ, ℤ, Bool, true, false, cond, List, [], ◌∷◌, ◌++◌, Option, Some, None, filter, map, refl, sym, ◌∙◌, ap}
 use Rattle.std.specs.List.{flat_map}
 use Rattle.nt_values.specs.declared.value.Value.{Value}
+use Rattle.nt_topics.specs.Properties.{is_cached}
 use Rattle.nt_control.specs.declared.message.ClientMsg.TheVariants.{Publish, Unpublish, SetProps, Subscribe, Unsubscribe}
 use Rattle.nt_subs.specs.Subscriptions.{Subs}
 use Rattle.nt_subs.specs.Wishes.{wanted}
@@ -21,7 +22,7 @@ use Rattle.nt_rules.specs.declared.taken.Taken.{Taken}
 use Rattle.nt_rules.specs.meta.Order.{insert_after, insert_all, pub_below}
 use Rattle.nt_rules.specs.history.Metas.{life_row, sub_row, pub_row}
 use Rattle.nt_server.specs.Connections.{Connections}
-use Rattle.nt_rules.specs.history.State.{is_number, with_outbox, open_row, metas_kept, differences, told_differences, refreshed, rewanted_all, meta_rewanted_all, rewanting, told_changes, told_sender, told_said, drained_by, drained_from}
+use Rattle.nt_rules.specs.history.State.{is_number, with_outbox, open_row, open_metas, differences, noted_differences, refreshed, rewanted_all, meta_rewanted_all, rewanting, changes_noted, sender_noted, message_noted, turn_noted, drained_by, drained_from}
 
 -- rows of two lists are put there one list after the other
 pub rows_more : {X : Type 0} (below : X → X → Bool) (rows a b : List X)
@@ -38,21 +39,21 @@ rows_same ts f same (o ∷ opens) =
     ∙ ap (λ rs. open_row ts o ∷ rs) (rows_same ts f same opens)
 
 pub metas_same : (ts : List Topic) (f : Open → Open) → ((o : Open) → open_row ts (f o) ≡ open_row ts o)
-    → (opens : List Open) → metas_kept (map f opens) ts ≡ metas_kept opens ts
-unfolding metas_kept
+    → (opens : List Open) → open_metas (map f opens) ts ≡ open_metas opens ts
+unfolding open_metas
 metas_same ts f same opens =
     ap (λ (rs : List ConnRow). metas (record { conns = rs; topics = map life_row ts }))
     (rows_same ts f same opens)
 
 -- other outboxes
 pub metas_told : (ts : List Topic) (f : Open → OutboxState) (opens : List Open)
-    → metas_kept (map (λ o. with_outbox (f o) o) opens) ts ≡ metas_kept opens ts
+    → open_metas (map (λ o. with_outbox (f o) o) opens) ts ≡ open_metas opens ts
 metas_told ts f opens = metas_same ts (λ o. with_outbox (f o) o) (λ o. refl) opens
 
 -- a connection is told of its other subscriptions
 metas_rewanting : (place : ℕ) (taken : List Taken) (ts : List Topic) (ms : List MetaNow) (conn : ℕ)
     (old : Subs) (opens : List Open)
-    → metas_kept (rewanting place taken ts ms conn old opens) ts ≡ metas_kept opens ts
+    → open_metas (rewanting place taken ts ms conn old opens) ts ≡ open_metas opens ts
 metas_rewanting place taken ts ms conn old opens = metas_same ts _ (λ o. by o (is_number conn o)) opens
   where
     told : Open → Open
@@ -69,15 +70,15 @@ metas_rewanting place taken ts ms conn old opens = metas_same ts _ (λ o. by o (
 pub record IsRenewed (place : ℕ) (before : List MetaNow) (taken : List Taken) (ts : List Topic) (conn : ℕ)
     (old : Subs) (opens : List Open) (after : List MetaNow) (told : List Open) : Type 0 where
   pub opens_are : told
-      ≡ refreshed place before ts (rewanting place taken ts (metas_kept opens ts) conn old opens)
-  pub metas_are : after ≡ metas_kept told ts
+      ≡ refreshed place before ts (rewanting place taken ts (open_metas opens ts) conn old opens)
+  pub metas_are : after ≡ open_metas told ts
 
 pub renewed : (place : ℕ) (before : List MetaNow) (taken : List Taken) (ts : List Topic) (conn : ℕ)
     (old : Subs) (opens : List Open) (after : List MetaNow) (wanting told : List Open)
-    → after ≡ metas_kept opens ts
+    → after ≡ open_metas opens ts
     → wanting ≡ rewanting place taken ts after conn old opens
     → told ≡ map (λ o. with_outbox
-    (told_differences place (wanted o.subs) (differences before after) o.outbox) o) wanting
+    (noted_differences place (wanted o.subs) (differences before after) o.outbox) o) wanting
     → IsRenewed place before taken ts conn old opens after told
 renewed place before taken ts conn old opens after wanting told a w t =
     record {
@@ -86,30 +87,30 @@ renewed place before taken ts conn old opens after wanting told a w t =
           a
           ∙ sym same
           ∙ sym (metas_told ts (box after) others)
-          ∙ sym (ap (λ (os : List Open). metas_kept os ts) all);
+          ∙ sym (ap (λ (os : List Open). open_metas os ts) all);
     }
   where
     others : List Open
-    others = rewanting place taken ts (metas_kept opens ts) conn old opens
+    others = rewanting place taken ts (open_metas opens ts) conn old opens
 
     box : List MetaNow → Open → OutboxState
-    box ms o = told_differences place (wanted o.subs) (differences before ms) o.outbox
+    box ms o = noted_differences place (wanted o.subs) (differences before ms) o.outbox
 
     tell : List MetaNow → Open → Open
     tell ms o = with_outbox (box ms o) o
 
-    same : metas_kept others ts ≡ metas_kept opens ts
-    same = metas_rewanting place taken ts (metas_kept opens ts) conn old opens
+    same : open_metas others ts ≡ open_metas opens ts
+    same = metas_rewanting place taken ts (open_metas opens ts) conn old opens
 
     all : told ≡ map (tell after) others
     all = t ∙ ap (map (tell after)) (w ∙ ap (λ ms. rewanting place taken ts ms conn old opens) a)
 
 -- a message that counted, told to a connection
-pub told_row : (us : List Topic) (place : ℕ) (ts : List Topic) (conn : ℕ) (m : Msg) (changes : List Change)
-    (o : Open) → open_row us (told_said place ts conn m changes o) ≡ open_row us o
+told_row : (us : List Topic) (place : ℕ) (ts : List Topic) (conn : ℕ) (m : Msg) (changes : List Change)
+    (o : Open) → open_row us (message_noted place ts conn m changes o) ≡ open_row us o
 told_row us place ts conn m changes o = by (is_number conn o)
   where
-    sender : (m : Msg) → open_row us (told_sender place ts m changes o) ≡ open_row us o
+    sender : (m : Msg) → open_row us (sender_noted place ts m changes o) ≡ open_row us o
     sender (Control (Publish name uid typ props)) = refl
     sender (Control (Unpublish uid)) = refl
     sender (Control (SetProps name update)) = refl
@@ -118,15 +119,30 @@ told_row us place ts conn m changes o = by (is_number conn o)
     sender (Put v) = refl
 
     by : (b : Bool)
-        → open_row us (cond b (told_sender place ts m changes o) (told_changes place changes o))
+        → open_row us (cond b (sender_noted place ts m changes o) (changes_noted place ts changes o))
         ≡ open_row us o
     by true = sender m
     by false = refl
 
+-- and before that a turn
+turned_row : (us : List Topic) (place : ℕ) (id : Option ℕ) (o : Open)
+    → open_row us (turn_noted place id o) ≡ open_row us o
+turned_row us place None o = refl
+turned_row us place (Some id) o = refl
+
+pub said_row : (us : List Topic) (place : ℕ) (ts : List Topic) (conn : ℕ) (m : Msg) (changes : List Change)
+    (id : Option ℕ) (o : Open)
+    → open_row us (message_noted place ts conn m changes (turn_noted place id o)) ≡ open_row us o
+said_row us place ts conn m changes id o =
+    told_row us place ts conn m changes (turn_noted place id o) ∙ turned_row us place id o
+
 pub metas_said : (us : List Topic) (place : ℕ) (ts : List Topic) (conn : ℕ) (m : Msg) (changes : List Change)
-    (opens : List Open) → metas_kept (map (told_said place ts conn m changes) opens) us ≡ metas_kept opens us
-metas_said us place ts conn m changes opens =
-    metas_same us (told_said place ts conn m changes) (told_row us place ts conn m changes) opens
+    (id : Option ℕ) (opens : List Open)
+    → open_metas (map (λ o. message_noted place ts conn m changes (turn_noted place id o)) opens) us
+    ≡ open_metas opens us
+metas_said us place ts conn m changes id opens =
+    metas_same us (λ o. message_noted place ts conn m changes (turn_noted place id o))
+    (said_row us place ts conn m changes id) opens
 
 -- a drain
 drained_row : (us : List Topic) (conn budget : ℕ) (o : Open)
@@ -138,12 +154,14 @@ drained_row us conn budget o = by (is_number conn o)
     by false = refl
 
 pub metas_drained : (us : List Topic) (conn budget : ℕ) (opens : List Open)
-    → metas_kept (map (drained_from conn budget) opens) us ≡ metas_kept opens us
+    → open_metas (map (drained_from conn budget) opens) us ≡ open_metas opens us
 metas_drained us conn budget opens =
     metas_same us (drained_from conn budget) (drained_row us conn budget) opens
 
 pub drained-metas : (us : List Topic) (k : Connections) (conn budget : ℕ) (b : Bool)
-    → metas_kept (cond b (record k { opens = map (drained_from conn budget) k.opens }) k).opens us ≡ metas_kept k.opens us
+    → open_metas (cond b (record k {
+      opens = map (drained_from conn budget) k.opens;
+    }) k).opens us ≡ open_metas k.opens us
 drained-metas us k conn budget true = metas_drained us conn budget k.opens
 drained-metas us k conn budget false = refl
 
@@ -162,9 +180,13 @@ pubs_put c test time value (t ∷ ts) = by (test t) (pubs_put c test time value 
     put : List Topic → List Topic
     put ts = change_first test (λ t. Some (with_value time value t)) ts
 
+    held : (b : Bool) → rows (cond b (record t { value = Some (record { time = time; value = value }) }) t) ≡ rows t
+    held true = refl
+    held false = refl
+
     by : (b : Bool) → flat_map rows (put ts) ≡ flat_map rows ts
         → flat_map rows (cond b (with_value time value t ∷ ts) (t ∷ put ts)) ≡ flat_map rows (t ∷ ts)
-    by true h = refl
+    by true h = ap (λ rs. rs ++ flat_map rows ts) (held (is_cached t.props))
     by false h = ap (λ rs. rows t ++ rs) h
 
 lives_put : (test : Topic → Bool) (time : ℕ) (value : Value) (ts : List Topic)
@@ -175,9 +197,14 @@ lives_put test time value (t ∷ ts) = by (test t) (lives_put test time value ts
     put : List Topic → List Topic
     put ts = change_first test (λ t. Some (with_value time value t)) ts
 
+    held : (b : Bool)
+        → life_row (cond b (record t { value = Some (record { time = time; value = value }) }) t) ≡ life_row t
+    held true = refl
+    held false = refl
+
     by : (b : Bool) → map life_row (put ts) ≡ map life_row ts
         → map life_row (cond b (with_value time value t ∷ ts) (t ∷ put ts)) ≡ map life_row (t ∷ ts)
-    by true h = refl
+    by true h = ap (λ r. r ∷ map life_row ts) (held (is_cached t.props))
     by false h = ap (λ rs. life_row t ∷ rs) h
 
 rows_put : (conn : ℕ) (uid : ℤ) (time : ℕ) (value : Value) (ts : List Topic) (opens : List Open)
@@ -185,15 +212,16 @@ rows_put : (conn : ℕ) (uid : ℤ) (time : ℕ) (value : Value) (ts : List Topi
 rows_put conn uid time value ts [] = refl
 rows_put conn uid time value ts (o ∷ opens) =
     ap (λ r. r ∷ map (open_row (with_put ts conn uid time value)) opens)
-    (ap (λ (ps : List PubRow). row (insert_all pub_below [] ps)) (pubs_put o.conn (has_publisher conn uid) time value ts))
+    (ap (λ (ps : List PubRow). row (insert_all pub_below [] ps))
+    (pubs_put o.conn (has_publisher conn uid) time value ts))
     ∙ ap (λ rs. open_row ts o ∷ rs) (rows_put conn uid time value ts opens)
   where
     row : List PubRow → ConnRow
     row ps = record { conn = o.conn; name = o.name; pubs = ps; subs = map sub_row o.subs }
 
 pub metas_put : (conn : ℕ) (uid : ℤ) (time : ℕ) (value : Value) (ts : List Topic) (opens : List Open)
-    → metas_kept opens (with_put ts conn uid time value) ≡ metas_kept opens ts
-unfolding metas_kept
+    → open_metas opens (with_put ts conn uid time value) ≡ open_metas opens ts
+unfolding open_metas
 metas_put conn uid time value ts opens =
     ap (λ (rs : List ConnRow). metas
     (record { conns = rs; topics = map life_row (with_put ts conn uid time value) }))

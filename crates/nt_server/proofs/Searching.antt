@@ -49,7 +49,8 @@ pub searched-places : (topic : ℕ) (ts : List Taken) (r : Result ℕ ℕ) → R
     → MatchResult r (IsFoundAt topic ts) (IsMissedAt topic ts)
 searched-places topic ts r h within at = by r (searched id_of_place topic 0 ts r h within at)
   where
-    by : (r : Result ℕ ℕ) → MatchResult r (sorted.IsFoundAt id_of_place topic ts) (sorted.IsMissedAt id_of_place topic ts)
+    by : (r : Result ℕ ℕ) → MatchResult r (sorted.IsFoundAt id_of_place topic ts)
+        (sorted.IsMissedAt id_of_place topic ts)
         → MatchResult r (IsFoundAt topic ts) (IsMissedAt topic ts)
     by (Ok i) f =
         record {
@@ -65,7 +66,8 @@ searched-places topic ts r h within at = by r (searched id_of_place topic 0 ts r
           within = within-missed id_of_place topic ts i m;
           nowhere = nowhere topic ts (any-missed id_of_place topic ts i m);
           put = λ place.
-              sym (insert-missed id_of_place topic (λ o. Some (taken_of topic place)) (taken_of topic place) ts i m refl)
+              sym (insert-missed id_of_place topic (λ o. Some (taken_of topic place)) (taken_of topic place) ts i m
+              refl)
               ∙ taken-key topic place ts;
           left = sym (filter-missed id_of_place topic ts i m);
         }

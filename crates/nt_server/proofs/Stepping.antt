@@ -21,7 +21,8 @@ use Rattle.nt_laws.proofs.histories.Inspection.{looked-changes}
 use Rattle.nt_laws.proofs.outboxes.OutboxesAfterAct.{step-acted}
 
 -- a server over restored topics stands for no entries
-pub represents-over : (permits : ℕ) (saved : List Saved) (ts : List Topic) (next : ℕ) (k : ServerState) → IsSavedSet saved
+pub represents-over : (permits : ℕ) (saved : List Saved) (ts : List Topic) (next : ℕ) (k : ServerState)
+    → IsSavedSet saved
     → k ≡ record { failed = false; state = record (begun permits []) { topics = ts; next = next } }
     → ts ≡ topics (restored 1 saved) → next ≡ length saved + 1
     → Represents k (record { permits = permits; saved = saved }) []

@@ -8,7 +8,7 @@ use Rattle.nt_rules.specs.declared.taken.Taken.{Taken}
 use Rattle.nt_rules.specs.declared.topic.Topic.{Topic}
 use Rattle.nt_rules.specs.outbox.Calls.{nothing_owed}
 use Rattle.nt_rules.specs.history.Answer.{given_name}
-use Rattle.nt_rules.specs.history.State.{Open, serves, subs_at, given_names, metas_kept, with_subs_of, rewanting, refreshed}
+use Rattle.nt_rules.specs.history.State.{Open, serves, subs_at, given_names, open_metas, with_subs_of, rewanting, refreshed}
 
 pub record Connections : Type 0 where
   pub opened : ℕ
@@ -45,7 +45,8 @@ pub record AreSpent (before after : Connections) : Type 0 where
   pub same : after ≡ before
 
 -- a connection was opened under the next number and a name that none has
-pub record IsOpened (before : Connections) (worker : ℕ) (name : List ℕ) (after : Connections) (given : ℕ × List ℕ) : Type 0 where
+pub record IsOpened (before : Connections) (worker : ℕ) (name : List ℕ) (after : Connections) (given : ℕ × List ℕ) :
+    Type 0 where
   pub room : nat_le last_connection before.opened ≡ false
   pub number_is : given.0 ≡ before.opened + 1
   pub name_is : given.1 ≡ given_name (given_names before.opens) name
@@ -64,4 +65,4 @@ pub record IsOpened (before : Connections) (worker : ℕ) (name : List ℕ) (aft
 abbrev pub resubscribed : ℕ → List MetaNow → List Taken → List Topic → ℕ → Subs → List Open → List Open
 resubscribed place before taken ts conn subs opens =
     let others = with_subs_of conn subs opens in
-    refreshed place before ts (rewanting place taken ts (metas_kept others ts) conn (subs_at opens conn) others)
+    refreshed place before ts (rewanting place taken ts (open_metas others ts) conn (subs_at opens conn) others)

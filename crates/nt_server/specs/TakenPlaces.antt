@@ -1,5 +1,5 @@
 -- How the places of taken values stand, and where a search finds that of a topic.
-use Rattle.std.specs.Prelude.{◌≡◌, ◌≤◌, ◌<◌, ◌+◌, ℕ, List, [], ◌∷◌, Some, length, insert, remove, slice_set}
+use Rattle.std.specs.Prelude.{◌≡◌, ◌≤◌, ◌<◌, ℕ, List, Some, length, insert, remove, slice_set}
 use Rattle.std.specs.List.{slice_get}
 use Rattle.nt_rules.specs.declared.taken.Taken.{Taken}
 use Rattle.nt_rules.specs.history.State.{taken_at, with_taken, without_taken}

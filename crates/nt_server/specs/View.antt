@@ -1,14 +1,19 @@
 -- What the fields of a server say.
-use Rattle.std.specs.Prelude.{◌≡◌, ◌+◌, ℕ, false, List, [], length, map}
+use Rattle.std.specs.Prelude.{◌≡◌, ◌+◌, ℕ, Bool, true, false, List, [], Option, Some, None, option_map, length, map, if◌then◌else◌}
+use Rattle.std.specs.List.{find}
+use Rattle.nt_topics.specs.Properties.{is_cached}
+use Rattle.nt_control.specs.declared.message.ClientMsg.TheVariants.{SetProps}
 use Rattle.nt_rules.specs.declared.topic.Saved.{Saved}
+use Rattle.nt_rules.specs.declared.topic.Topic.{Topic}
 use Rattle.nt_rules.specs.declared.topic.Outcome.{Outcome}
 use Rattle.nt_rules.specs.declared.topic.Outcome.TheVariants.{Done, Ignored}
 use Rattle.nt_rules.specs.declared.act.Msg.{Msg}
 use Rattle.nt_rules.specs.declared.act.Msg.TheVariants.{Control, Put}
 use Rattle.nt_server.specs.declared.inner.Inner.{Inner}
+use Rattle.nt_rules.specs.topics.Topics.{is_named}
 use Rattle.nt_rules.specs.history.Lives.{topics, restored}
 use Rattle.nt_rules.specs.declared.meta.MetaNow.{MetaNow}
-use Rattle.nt_rules.specs.history.State.{State, metas_kept, if_structural, told_said, taken_after}
+use Rattle.nt_rules.specs.history.State.{State, open_metas, if_structural, message_noted, turn_noted, taken_after}
 
 -- the state that the fields hold
 abbrev pub state_of : Inner → State
@@ -44,7 +49,7 @@ begun permits saved =
 
 -- the meta topics that are kept are those of the open connections and the living topics
 pub record IsKept (i : Inner) : Type 0 where
-  pub metas_are : i.metas ≡ metas_kept i.connections.opens i.table.topics
+  pub metas_are : i.metas ≡ open_metas i.connections.opens i.table.topics
 
 -- where a message counted, the meta topics that are kept may be those before it, but for a put
 abbrev pub IsKeptAfter : Msg → Outcome → Inner → Type 0
@@ -52,11 +57,30 @@ IsKeptAfter (Control m) (Done changes) i = Unit {0}
 IsKeptAfter (Control m) (Ignored cause) i = IsKept i
 IsKeptAfter (Put v) outcome i = IsKept i
 
--- the state after a message to a topic was told, over the topics after it, where the meta topics were these before
-abbrev pub settled : List MetaNow → ℕ → ℕ → Msg → Outcome → State → State
-settled before place conn m (Done changes) s =
+-- whether the topic whose properties a message sets is cached, where it is there
+abbrev pub cached_of : List Topic → Msg → Option Bool
+cached_of ts (Control (SetProps name update)) = option_map (λ t. is_cached t.props) (find (is_named name) ts)
+cached_of ts m = None
+
+-- the topic that a message turned, of which it is known whether it was cached before
+abbrev pub turned_one : Option Bool → Option Topic → Option ℕ
+turned_one (Some true) (Some t) = if is_cached t.props then None else Some t.id
+turned_one (Some false) (Some t) = if is_cached t.props then Some t.id else None
+turned_one cached t = None
+
+-- its id, over the topics after the message
+abbrev pub turned_since : Option Bool → List Topic → Msg → Option ℕ
+turned_since cached ts (Control (SetProps name update)) = turned_one cached (find (is_named name) ts)
+turned_since cached ts m = None
+
+-- the state after a message to a topic was told, over the topics after it, where the meta topics were these before, and
+-- the topic whose properties it set was cached or not
+abbrev pub settled : List MetaNow → Option Bool → ℕ → ℕ → Msg → Outcome → State → State
+settled before cached place conn m (Done changes) s =
     record s {
-      opens = if_structural m place before s.topics (map (told_said place s.topics conn m changes) s.opens);
-      taken = taken_after place changes s.taken;
+      opens = if_structural m place before s.topics
+          (map (λ o. message_noted place s.topics conn m changes (turn_noted place (turned_since cached s.topics m) o))
+          s.opens);
+      taken = taken_after place s.topics changes s.taken;
     }
-settled before place conn m (Ignored cause) s = s
+settled before cached place conn m (Ignored cause) s = s

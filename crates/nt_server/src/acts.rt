@@ -22,8 +22,7 @@ pub struct Stepped {
     pub changes: Changes,
 }
 
-/// The messages that an answer hands, as an entry tells them: none where nothing was handed. It
-/// fails for want of memory alone.
+/// The messages that an answer hands, as an entry tells them: none where nothing was handed.
 fn handed(alloc: Global, out: &StepOut) -> Result<Batch, AllocError>
     ensures { IfOk result (λ batch. batch ≡ drained_batch out.now) }
 {
@@ -34,7 +33,7 @@ fn handed(alloc: Global, out: &StepOut) -> Result<Batch, AllocError>
 }
 
 impl Inner {
-    /// A connection of this name opens. It fails for want of memory alone.
+    /// A connection of this name opens.
     fn open(
         &mut self,
         alloc: Global,
@@ -82,7 +81,7 @@ impl Inner {
         })
     }
 
-    /// A connection says something. It fails for want of memory alone.
+    /// A connection says something.
     #[tactic(auto, using(crate::proofs::Counts::said_done, crate::proofs::Counts::said_ignored))]
     fn said(
         &mut self,
@@ -125,7 +124,7 @@ impl Inner {
         }
     }
 
-    /// A connection is handed what it is owed. It fails for want of memory alone.
+    /// A connection is handed what it is owed.
     fn drain(
         &mut self,
         alloc: Global,
@@ -171,7 +170,7 @@ impl Inner {
         })
     }
 
-    /// A connection closes. It fails for want of memory alone.
+    /// A connection closes.
     fn close(
         &mut self,
         alloc: Global,
@@ -204,8 +203,9 @@ impl Inner {
             });
         }
         let changes = self.table.drop_conn(alloc, conn)?;
-        self.connections.tell(alloc, place, changes.as_slice())?;
-        self.taken.take_changes(place, changes.as_slice())?;
+        let told = changes.as_slice();
+        self.connections.tell(alloc, place, &self.table, told)?;
+        self.taken.take_changes(place, &self.table, told)?;
         self.connections
             .refresh(alloc, place, &self.table, &mut self.metas)?;
         Ok(Stepped {
@@ -264,7 +264,7 @@ impl Inner {
         }
     }
 
-    /// An act at this place, not yet counted. It fails for want of memory alone.
+    /// An act at this place, not yet counted.
     fn act(
         &mut self,
         alloc: Global,

@@ -6,7 +6,7 @@ ghost use Rattle.nt_subs.specs.Wishes.{wanted};
 ghost use Rattle.nt_rules.specs.Sorted.{RisesFrom, IsMissedAt};
 ghost use Rattle.nt_rules.specs.outbox.Calls.{nothing_owed, behind, drained_batch};
 ghost use Rattle.nt_rules.specs.history.Answer.{drained_out};
-ghost use Rattle.nt_rules.specs.history.State.{is_number, serves, subs_at, outbox_at, with_outbox, metas_kept, differences, told_differences, refreshed, told_changes, told_said, drained_from};
+ghost use Rattle.nt_rules.specs.history.State.{is_number, serves, subs_at, outbox_at, with_outbox, open_metas, differences, noted_differences, refreshed, changes_noted, message_noted, turn_noted, drained_from};
 ghost use Rattle.nt_server.specs.Connections.{number, number_at, IsOpenAt, IsServedAt, AreSpent, IsOpened, resubscribed};
 
 use crate::differences::{differences, tell_differences};
@@ -14,7 +14,7 @@ use crate::names::given_name;
 use crate::open::Open;
 use crate::roster::metas_of;
 use crate::taken::TakenPlaces;
-use crate::telling::{tell_changes, tell_sender};
+use crate::telling::{tell_changes, tell_message};
 use crate::wishes::rewant;
 use nt_outbox::Outbox;
 use nt_rules::{Cause, Change, LAST_CONNECTION, MetaNow, Metas, Msg, StepOut};
@@ -151,22 +151,29 @@ impl OpenConnections {
         }
     }
 
-    /// Tells each connection of changes. Where that fails, none is left.
-    pub fn tell(&mut self, alloc: Global, place: u64, changes: &[Change]) -> Result<(), AllocError>
+    /// Tells each connection of changes, over the topics after them. Where that fails, none is
+    /// left.
+    pub fn tell(
+        &mut self,
+        alloc: Global,
+        place: u64,
+        table: &Table,
+        changes: &[Change],
+    ) -> Result<(), AllocError>
         ensures { OnOk result (self.new ≡ record self.old {
-          opens = map (told_changes place changes.now) self.old.opens;
+          opens = map (changes_noted place table.now.topics changes.now) self.old.opens;
         }) }
     {
         let mut list = mem::replace(&mut self.list, Vec::new(alloc));
         for client in list.iter_mut() {
-            tell_changes(alloc, client, place, changes)?;
+            tell_changes(alloc, client, place, table, changes)?;
         }
         self.list = list;
         Ok(())
     }
 
-    /// Tells each connection of a message that counted, over the topics after it. Where that fails,
-    /// none is left.
+    /// Tells each connection of a message that counted, over the topics after it, and first of the
+    /// topic that it turned, if any. Where that fails, none is left.
     pub fn tell_message(
         &mut self,
         alloc: Global,
@@ -175,18 +182,16 @@ impl OpenConnections {
         conn: u32,
         msg: &Msg,
         changes: &[Change],
+        turned: Option<u32>,
     ) -> Result<(), AllocError>
         ensures { OnOk result (self.new ≡ record self.old {
-          opens = map (told_said place table.now.topics conn msg.now changes.now) self.old.opens;
+          opens = map (λ o. message_noted place table.now.topics conn msg.now changes.now
+              (turn_noted place turned o)) self.old.opens;
         }) }
     {
         let mut list = mem::replace(&mut self.list, Vec::new(alloc));
         for client in list.iter_mut() {
-            if client.conn == conn {
-                tell_sender(alloc, client, place, table, msg, changes)?;
-            } else {
-                tell_changes(alloc, client, place, changes)?;
-            }
+            tell_message(alloc, client, place, table, conn, msg, changes, turned)?;
         }
         self.list = list;
         Ok(())
@@ -202,7 +207,7 @@ impl OpenConnections {
         after: &[MetaNow],
     ) -> Result<(), AllocError>
         ensures { OnOk result (self.new ≡ record self.old {
-          opens = map (λ o. with_outbox (told_differences place (wanted o.subs)
+          opens = map (λ o. with_outbox (noted_differences place (wanted o.subs)
               (differences before.now after.now) o.outbox) o) self.old.opens;
         }) }
     {
@@ -226,7 +231,7 @@ impl OpenConnections {
         ensures connections { OnOk result (self.new ≡ record self.old {
           opens = refreshed place metas.old table.now.topics self.old.opens;
         }) }
-        ensures metas { OnOk result (metas.new ≡ metas_kept self.new.opens table.now.topics) }
+        ensures metas { OnOk result (metas.new ≡ open_metas self.new.opens table.now.topics) }
     {
         let after = metas_of(alloc, &self.list, table)?;
         self.tell_metas(alloc, place, metas.as_slice(), after.as_slice())?;
@@ -251,7 +256,7 @@ impl OpenConnections {
           opens = resubscribed place metas.old taken.now table.now.topics
               (number_at self.old.opens i) subs self.old.opens;
         }) }
-        ensures metas { OnOk result (metas.new ≡ metas_kept self.new.opens table.now.topics) }
+        ensures metas { OnOk result (metas.new ≡ open_metas self.new.opens table.now.topics) }
     {
         let client = &mut self.list[i];
         let old = mem::replace(&mut client.subs, subs);

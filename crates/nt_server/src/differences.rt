@@ -3,14 +3,14 @@
 ghost use Rattle.std.specs.Prelude.{◌≡◌, ◌++◌, ◌≤◌, List, drop, length, map, IfOk, OnOk};
 ghost use Rattle.nt_subs.specs.Wishes.{wanted};
 ghost use Rattle.nt_rules.specs.declared.meta.MetaNow.{MetaNow};
-ghost use Rattle.nt_rules.specs.history.State.{difference_of, differences_from, differences, told_difference, told_differences};
+ghost use Rattle.nt_rules.specs.history.State.{difference_of, differences_from, differences, noted_difference, noted_differences};
 
 use nt_outbox::Outbox;
 use nt_rules::{Difference, MetaNow};
 use nt_subs::{SubSet, Wanted};
 use std::alloc::{AllocError, Global};
 
-/// An equal meta topic. It fails for want of memory alone.
+/// An equal meta topic.
 fn copy_of(alloc: Global, meta: &MetaNow) -> Result<MetaNow, AllocError>
     ensures { IfOk result (λ copied. copied ≡ meta.now) }
 {
@@ -22,7 +22,7 @@ fn copy_of(alloc: Global, meta: &MetaNow) -> Result<MetaNow, AllocError>
 }
 
 /// Finds what is different up to a meta topic that was there, and answers how many of those after
-/// were passed. It fails for want of memory alone.
+/// were passed.
 fn find_up_to(
     alloc: Global,
     found: &mut Vec<Difference>,
@@ -51,8 +51,7 @@ fn find_up_to(
     Ok(after.len())
 }
 
-/// What is different between the meta topics before and those after, each by rising id. It fails
-/// for want of memory alone.
+/// What is different between the meta topics before and those after, each by rising id.
 pub fn differences(
     alloc: Global,
     before: &[MetaNow],
@@ -72,7 +71,7 @@ pub fn differences(
     Ok(found)
 }
 
-/// Tells an outbox of a difference. It fails for want of memory alone.
+/// Tells an outbox of a difference.
 fn tell_difference(
     alloc: Global,
     outbox: &mut Outbox,
@@ -81,7 +80,7 @@ fn tell_difference(
     difference: &Difference,
 ) -> Result<(), AllocError>
     ensures { OnOk result
-        (outbox.new ≡ told_difference place (wanted subs.now) difference.now outbox.old) }
+        (outbox.new ≡ noted_difference place (wanted subs.now) difference.now outbox.old) }
 {
     match difference {
         Difference::Began(meta) => {
@@ -96,7 +95,7 @@ fn tell_difference(
     }
 }
 
-/// Tells an outbox of differences. It fails for want of memory alone.
+/// Tells an outbox of differences.
 pub fn tell_differences(
     alloc: Global,
     outbox: &mut Outbox,
@@ -105,7 +104,7 @@ pub fn tell_differences(
     found: &[Difference],
 ) -> Result<(), AllocError>
     ensures { OnOk result
-        (outbox.new ≡ told_differences place (wanted subs.now) found.now outbox.old) }
+        (outbox.new ≡ noted_differences place (wanted subs.now) found.now outbox.old) }
 {
     for difference in found {
         tell_difference(alloc, outbox, subs, place, difference)?;

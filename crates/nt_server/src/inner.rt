@@ -7,7 +7,7 @@ use nt_table::Table;
 
 /// What a server keeps: the permits and how many were granted, whether it is shut, the last moment
 /// in microseconds and how many entries there are, the topics, the open connections, the places of
-/// taken values, and the meta topics as they are.
+/// held values, and the meta topics as they are.
 #[derive(Drop)]
 pub struct Inner {
     pub permits: u32,

@@ -7,37 +7,71 @@ ghost use Rattle.nt_rules.specs.history.Now.{subscribe_cause, unsubscribe_cause}
 ghost use Rattle.nt_rules.specs.history.State.{subs_at, cause_at, changes_said, if_taken, subscribed, said_to};
 ghost use Rattle.nt_rules.specs.history.Step.{IsPut};
 ghost use Rattle.nt_server.specs.Connections.{number_at};
-ghost use Rattle.nt_server.specs.View.{state_of, IsKept, IsKeptAfter, settled};
+ghost use Rattle.nt_server.specs.View.{state_of, IsKept, IsKeptAfter, cached_of, turned_since, settled};
 
 use crate::inner::Inner;
 use nt_control::ClientMsg;
 use nt_rules::{Cause, Changes, Msg, Outcome};
 use nt_subs::{Added, Sub, SubSet};
+use nt_table::Table;
 use std::alloc::{AllocError, Global};
 
+/// Whether the topic whose properties a message sets is cached, where it is there.
+fn cached_of(table: &Table, msg: &Msg) -> Option<bool>
+    ensures { result ≡ cached_of table.now.topics msg.now }
+{
+    match msg {
+        Msg::Control(ClientMsg::SetProps { name, .. }) => {
+            let topic = table.topic(name.as_str())?;
+            Some(topic.props.cached())
+        }
+        _other => None,
+    }
+}
+
+/// The id of the topic that a message turned, over the topics after it, where it is known whether
+/// it was cached before.
+fn turned(table: &Table, msg: &Msg, was_cached: Option<bool>) -> Option<u32>
+    ensures { result ≡ turned_since was_cached table.now.topics msg.now }
+{
+    let Msg::Control(ClientMsg::SetProps { name, .. }) = msg else {
+        return None;
+    };
+    let was_cached = was_cached?;
+    let topic = table.topic(name.as_str())?;
+    if topic.props.cached() == was_cached {
+        return None;
+    }
+    Some(topic.id)
+}
+
 impl Inner {
-    /// Tells of a message to a topic, where it counted.
+    /// Tells of a message to a topic, where it counted. A topic whose properties it set was cached
+    /// before or wasn't.
     fn settle(
         &mut self,
         alloc: Global,
         place: u64,
         conn: u32,
         msg: &Msg,
+        was_cached: Option<bool>,
         outcome: Outcome,
     ) -> Result<Outcome, AllocError>
         requires { IsKeptAfter msg.now outcome self.old }
         ensures outcome { IfOk result (λ o. o ≡ outcome) }
         ensures state { OnOk result (state_of self.new
-            ≡ settled self.old.metas place conn msg.now outcome (state_of self.old)) }
+            ≡ settled self.old.metas was_cached place conn msg.now outcome (state_of self.old)) }
         ensures kept { OnOk result (IsKept self.new) }
     {
         let Outcome::Done(changes) = &outcome else {
             return Ok(outcome);
         };
         let changes = changes.as_slice();
+        let table = &self.table;
+        let turned = turned(table, msg, was_cached);
         self.connections
-            .tell_message(alloc, place, &self.table, conn, msg, changes)?;
-        self.taken.take_changes(place, changes)?;
+            .tell_message(alloc, place, table, conn, msg, changes, turned)?;
+        self.taken.take_changes(place, table, changes)?;
         if let Msg::Put(_) = msg {
             return Ok(outcome);
         }
@@ -152,6 +186,7 @@ impl Inner {
         let Some(i) = self.connections.served(worker, conn) else {
             return Ok(Outcome::Ignored(Cause::NoConn));
         };
+        let was_cached = cached_of(&self.table, msg);
         match msg {
             Msg::Control(ClientMsg::Subscribe { uid, sub }) => {
                 self.subscribe(alloc, place, i, *uid, sub)
@@ -171,21 +206,21 @@ impl Inner {
                 let outcome = self
                     .table
                     .publish(alloc, conn, *uid, name, typ, props.copy()?)?;
-                self.settle(alloc, place, conn, msg, outcome)
+                self.settle(alloc, place, conn, msg, was_cached, outcome)
             }
             Msg::Control(ClientMsg::Unpublish { uid }) => {
                 let outcome = self.table.unpublish(alloc, conn, *uid)?;
-                self.settle(alloc, place, conn, msg, outcome)
+                self.settle(alloc, place, conn, msg, was_cached, outcome)
             }
             Msg::Control(ClientMsg::SetProps { name, update }) => {
                 let outcome = self.table.set_props(alloc, name, update.copy()?)?;
-                self.settle(alloc, place, conn, msg, outcome)
+                self.settle(alloc, place, conn, msg, was_cached, outcome)
             }
             Msg::Put(v) => {
                 let outcome = self
                     .table
                     .put(alloc, conn, v.id, v.time, v.value.copy(alloc)?)?;
-                self.settle(alloc, place, conn, msg, outcome)
+                self.settle(alloc, place, conn, msg, was_cached, outcome)
             }
         }
     }

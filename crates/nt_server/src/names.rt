@@ -20,7 +20,7 @@ fn is_used(opens: &[Open], name: &Name) -> bool
     false
 }
 
-/// `name` at 0, and then `name@1`, `name@2` and so on. It fails for want of memory alone.
+/// `name` at 0, and then `name@1`, `name@2` and so on.
 fn numbered(alloc: Global, name: &ClientName, number: usize) -> Result<Name, AllocError>
     ensures { IfOk result (λ n. n ≡ numbered name.now number) }
 {
@@ -32,7 +32,7 @@ fn numbered(alloc: Global, name: &ClientName, number: usize) -> Result<Name, All
     Name::of(alloc, text.as_str())
 }
 
-/// The first of the numbered names that no open connection has. It fails for want of memory alone.
+/// The first of the numbered names that no open connection has.
 pub fn given_name(alloc: Global, opens: &[Open], name: &ClientName) -> Result<Name, AllocError>
     ensures { IfOk result (λ n. n ≡ given_name (given_names opens.now) name.now) }
 {

@@ -1,8 +1,9 @@
 //! Saved topics that begin again.
 
-ghost use Rattle.std.specs.Prelude.{◌≡◌, ◌+◌, false, None, length, IfOk, OnOk};
+ghost use Rattle.std.specs.Prelude.{◌≡◌, ◌+◌, true, false, None, length, IfOk, IfSome, OnOk};
 ghost use Rattle.std.specs.List.{list_any};
 ghost use Rattle.nt_topics.specs.Names.{is_special};
+ghost use Rattle.nt_topics.specs.Properties.{is_cached};
 ghost use Rattle.nt_rules.specs.topics.Topics.{is_named, restore_cause, restored as restored_in};
 ghost use Rattle.nt_rules.specs.history.Lives.{topics, restored};
 ghost use Rattle.nt_rules.specs.history.Saved.{IsSavedSet};
@@ -11,10 +12,11 @@ use nt_rules::Saved;
 use nt_table::Table;
 use std::alloc::{AllocError, Global};
 
-/// Begins a saved topic that no cause refuses. It fails for want of memory alone.
+/// Begins a saved topic that no cause refuses.
 fn begin(alloc: Global, table: &mut Table, saved: Saved) -> Result<(), AllocError>
     requires unnamed { list_any (is_named saved.name) table.old.topics ≡ false }
     requires plain { is_special saved.name ≡ false }
+    requires held { IfSome saved.value (λ v. is_cached saved.props ≡ true) }
     requires counts { restore_cause table.old.topics table.old.next saved ≡ None }
     ensures topics { OnOk result
         (table.new.topics ≡ restored_in table.old.topics table.old.next saved) }
@@ -24,8 +26,7 @@ fn begin(alloc: Global, table: &mut Table, saved: Saved) -> Result<(), AllocErro
     Ok(())
 }
 
-/// The table of topics that were saved, with ids from 1 in the order of the list. It fails for want
-/// of memory alone.
+/// The table of topics that were saved, with ids from 1 in the order of the list.
 pub fn restored(alloc: Global, saved: Vec<Saved>) -> Result<Table, AllocError>
     requires { IsSavedSet saved.items }
     ensures topics { IfOk result (λ table. table.topics ≡ topics (restored 1 saved.items)) }

@@ -11,7 +11,7 @@ use nt_values::Value;
 use std::alloc::{AllocError, Global};
 use std::cmp::Ordering;
 
-/// A held value without its time. It fails for want of memory alone.
+/// A held value without its time.
 fn saved_value(alloc: Global, held: &Option<Timed>) -> Result<Option<Value>, AllocError>
     ensures { IfOk result (λ value. value ≡ option_map (λ v. v.value) held.now) }
 {
@@ -21,7 +21,7 @@ fn saved_value(alloc: Global, held: &Option<Timed>) -> Result<Option<Value>, All
     }
 }
 
-/// A topic, as it is saved. It fails for want of memory alone.
+/// A topic, as it is saved.
 fn saved_topic(alloc: Global, topic: &Topic) -> Result<Saved, AllocError>
     ensures { IfOk result (λ saved. saved ≡ saved_topic topic.now) }
 {
@@ -33,7 +33,7 @@ fn saved_topic(alloc: Global, topic: &Topic) -> Result<Saved, AllocError>
     })
 }
 
-/// Adds a topic to those that are saved, where it is persistent. It fails for want of memory alone.
+/// Adds a topic to those that are saved, where it is persistent.
 fn save(alloc: Global, saved: &mut Vec<Saved>, topic: &Topic) -> Result<(), AllocError>
     ensures { OnOk result (saved.new.items ≡ saved.old.items ++ persistent_ones (topic.now ∷ [])) }
 {
@@ -43,7 +43,7 @@ fn save(alloc: Global, saved: &mut Vec<Saved>, topic: &Topic) -> Result<(), Allo
     Ok(())
 }
 
-/// The persistent topics, by rising id. It fails for want of memory alone.
+/// The persistent topics, by rising id.
 fn persistent_ones(alloc: Global, table: &Table) -> Result<Vec<Saved>, AllocError>
     ensures { IfOk result (λ saved. saved.items ≡ persistent_ones table.now.topics) }
 {
@@ -61,7 +61,7 @@ fn by_name(one: &Saved, other: &Saved) -> Ordering
     one.name.as_str().cmp(other.name.as_str())
 }
 
-/// The persistent topics, by the bytes of their names. It fails for want of memory alone.
+/// The persistent topics, by the bytes of their names.
 pub fn saved_of(alloc: Global, table: &Table) -> Result<Vec<Saved>, AllocError>
     ensures { IfOk result (λ saved. AreSaved table.now.topics saved.items) }
 {

@@ -50,8 +50,7 @@ impl Model for Server {
 }
 
 impl Server {
-    /// A server without connections and topics, which grants so many permits. It fails for want of
-    /// memory alone.
+    /// A server without connections and topics, which grants so many permits.
     pub fn new(alloc: Global, permits: u32) -> Result<Server, AllocError>
         ensures { IfOk result
             (λ s. Represents s (record { permits = permits; saved = [] }) []) }
@@ -60,8 +59,7 @@ impl Server {
     }
 
     /// A server without connections, over the topics that were saved: their ids are from 1, in the
-    /// order of the list, and a value has the time 0. It grants so many permits. It fails for want
-    /// of memory alone.
+    /// order of the list, and a value has the time 0. It grants so many permits.
     pub fn restore(alloc: Global, permits: u32, saved: Vec<Saved>) -> Result<Server, AllocError>
         requires { IsSavedSet saved.items }
         ensures { IfOk result
@@ -70,7 +68,7 @@ impl Server {
         Server::over(alloc, permits, restored(alloc, saved)?)
     }
 
-    /// A server without connections over these topics. It fails for want of memory alone.
+    /// A server without connections over these topics.
     fn over(alloc: Global, permits: u32, table: Table) -> Result<Server, AllocError>
         ensures { IfOk result (λ s. s ≡ record {
           failed = false;
@@ -171,7 +169,7 @@ impl Server {
     }
 
     /// The topics that are saved: the persistent ones, by the bytes of their names, with their held
-    /// values. It fails for want of memory alone.
+    /// values.
     pub fn saved(&self, alloc: Global) -> Result<Vec<Saved>, AllocError>
         ensures { IfOk result (λ saved. (start : Start) (past : List Entry)
             → Represents self.now start past

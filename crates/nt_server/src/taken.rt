@@ -6,7 +6,9 @@ ghost use Rattle.nt_rules.specs.history.State.{taken_at, with_taken, without_tak
 ghost use Rattle.nt_rules.specs.Sorted.{RisesFrom};
 ghost use Rattle.nt_server.specs.TakenPlaces.{id_of_place, IsFoundAt, IsMissedAt};
 
+use crate::telling::holds_in;
 use nt_rules::{Change, Taken};
+use nt_table::Table;
 use std::alloc::{AllocError, Global};
 use std::marker::Model;
 
@@ -65,7 +67,7 @@ impl TakenPlaces {
         }
     }
 
-    /// Keeps the place at which the value of a topic was taken. It fails for want of memory alone.
+    /// Keeps the place at which the value of a topic was taken.
     fn take(&mut self, topic: u32, place: u64) -> Result<(), AllocError>
         ensures { OnOk result (self.new ≡ with_taken topic place self.old) }
     {
@@ -86,16 +88,23 @@ impl TakenPlaces {
         }
     }
 
-    /// Keeps the place of a value that was taken there, and forgets that of a topic that ended. It
-    /// fails for want of memory alone.
-    fn take_change(&mut self, place: u64, change: &Change) -> Result<(), AllocError>
-        ensures { OnOk result (self.new ≡ taken_by place change.now self.old) }
+    /// Keeps the place of a value that was taken there and is held, over the topics after a change,
+    /// and forgets that of a topic that holds none or ended.
+    fn take_change(&mut self, place: u64, table: &Table, change: &Change) -> Result<(), AllocError>
+        ensures { OnOk result (self.new ≡ taken_by place table.now.topics change.now self.old) }
     {
         match change {
-            Change::Changed { id, .. } => match id_of(*id) {
-                Some(topic) => self.take(topic, place),
-                None => Ok(()),
+            Change::Changed { id, name, .. } => match id_of(*id) {
+                Some(topic) if holds_in(table, name.as_str()) => self.take(topic, place),
+                _other => Ok(()),
             },
+            Change::Props { id, name, .. } => {
+                match id_of(*id) {
+                    Some(topic) if !holds_in(table, name.as_str()) => self.forget(topic),
+                    _other => {}
+                }
+                Ok(())
+            }
             Change::Ended { id, .. } => {
                 if let Some(topic) = id_of(*id) {
                     self.forget(topic);
@@ -106,13 +115,19 @@ impl TakenPlaces {
         }
     }
 
-    /// Keeps the places of values that were taken there, and forgets those of topics that ended. It
-    /// fails for want of memory alone.
-    pub fn take_changes(&mut self, place: u64, changes: &[Change]) -> Result<(), AllocError>
-        ensures { OnOk result (self.new ≡ taken_after place changes.now self.old) }
+    /// Keeps the places of values that were taken there and are held, over the topics after these
+    /// changes, and forgets those of topics that hold none or ended.
+    pub fn take_changes(
+        &mut self,
+        place: u64,
+        table: &Table,
+        changes: &[Change],
+    ) -> Result<(), AllocError>
+        ensures { OnOk result
+            (self.new ≡ taken_after place table.now.topics changes.now self.old) }
     {
         for change in changes {
-            self.take_change(place, change)?;
+            self.take_change(place, table, change)?;
         }
         Ok(())
     }

@@ -1,8 +1,8 @@
-//! What an outbox is told of changes, and of its connection's own messages.
+//! What an outbox is told of changes and turns, and of its connection's own messages.
 
 ghost use Rattle.std.specs.Prelude.{◌≡◌, filter, OnOk};
 ghost use Rattle.nt_subs.specs.Wishes.{wanted};
-ghost use Rattle.nt_rules.specs.history.State.{name_in, is_end, noted_all, told_changes, told_sender};
+ghost use Rattle.nt_rules.specs.history.State.{cached_in, changes_noted, holds_in, is_end, message_noted, name_in, noted_all, sender_noted, turn_noted};
 
 use crate::open::Open;
 use nt_control::ClientMsg;
@@ -24,58 +24,92 @@ fn name_in(change: &Change) -> &str
     }
 }
 
-/// Tells an outbox of changes. It fails for want of memory alone.
+/// Whether the topic of a name is cached, as each is that isn't there.
+fn cached_in(table: &Table, name: &str) -> bool
+    ensures { result ≡ cached_in table.now.topics name.now }
+{
+    match table.topic(name) {
+        Some(topic) => topic.props.cached(),
+        None => true,
+    }
+}
+
+/// Whether the topic of a name holds a value.
+pub fn holds_in(table: &Table, name: &str) -> bool
+    ensures { result ≡ holds_in table.now.topics name.now }
+{
+    match table.topic(name) {
+        Some(topic) => topic.value.is_some(),
+        None => false,
+    }
+}
+
+/// Tells an outbox of changes, over the topics after them.
 pub fn note_all(
     alloc: Global,
     outbox: &mut Outbox,
     subs: &SubSet,
     place: u64,
+    table: &Table,
     changes: &[Change],
 ) -> Result<(), AllocError>
-    ensures { OnOk result (outbox.new ≡ noted_all place (wanted subs.now) changes.now outbox.old) }
+    ensures { OnOk result (outbox.new
+        ≡ noted_all place table.now.topics (wanted subs.now) changes.now outbox.old) }
 {
     for change in changes {
-        let wish = subs.matches(name_in(change));
-        outbox.note(alloc, place, change, wish)?;
+        let name = name_in(change);
+        let wish = subs.matches(name);
+        outbox.note(alloc, place, change, cached_in(table, name), wish)?;
     }
     Ok(())
 }
 
-/// Tells an outbox of the ends among changes. It fails for want of memory alone.
+/// Tells an outbox of the ends among changes.
 fn note_ends(
     alloc: Global,
     outbox: &mut Outbox,
     subs: &SubSet,
     place: u64,
+    table: &Table,
     changes: &[Change],
 ) -> Result<(), AllocError>
-    ensures { OnOk result
-        (outbox.new ≡ noted_all place (wanted subs.now) (filter is_end changes.now) outbox.old) }
+    ensures { OnOk result (outbox.new
+        ≡ noted_all place table.now.topics (wanted subs.now) (filter is_end changes.now)
+        outbox.old) }
 {
     for change in changes {
         if let Change::Ended { name, .. } = change {
             let wish = subs.matches(name.as_str());
-            outbox.note(alloc, place, change, wish)?;
+            outbox.note(alloc, place, change, cached_in(table, name.as_str()), wish)?;
         }
     }
     Ok(())
 }
 
-/// Tells a connection of changes. It fails for want of memory alone.
+/// Tells a connection of changes, over the topics after them.
 pub fn tell_changes(
     alloc: Global,
     client: &mut Open,
     place: u64,
+    table: &Table,
     changes: &[Change],
 ) -> Result<(), AllocError>
-    ensures { OnOk result (client.new ≡ told_changes place changes.now client.old) }
+    ensures { OnOk result (client.new
+        ≡ changes_noted place table.now.topics changes.now client.old) }
 {
-    note_all(alloc, &mut client.outbox, &client.subs, place, changes)
+    note_all(
+        alloc,
+        &mut client.outbox,
+        &client.subs,
+        place,
+        table,
+        changes,
+    )
 }
 
 /// Tells the sender of a message that counted. What it did itself it is answered, and isn't told
-/// besides. It fails for want of memory alone.
-pub fn tell_sender(
+/// besides.
+fn tell_sender(
     alloc: Global,
     client: &mut Open,
     place: u64,
@@ -84,7 +118,7 @@ pub fn tell_sender(
     changes: &[Change],
 ) -> Result<(), AllocError>
     ensures { OnOk result (client.new
-        ≡ told_sender place table.now.topics msg.now changes.now client.old) }
+        ≡ sender_noted place table.now.topics msg.now changes.now client.old) }
 {
     let outbox = &mut client.outbox;
     let subs = &client.subs;
@@ -104,8 +138,33 @@ pub fn tell_sender(
             if let Some(topic) = table.topic(name.as_str()) {
                 outbox.reply(alloc, place, topic, Reply::Ack, Some(update))?;
             }
-            note_ends(alloc, outbox, subs, place, changes)
+            note_ends(alloc, outbox, subs, place, table, changes)
         }
-        _other => note_all(alloc, outbox, subs, place, changes),
+        _other => note_all(alloc, outbox, subs, place, table, changes),
+    }
+}
+
+/// Tells a connection of a message of `conn` that counted, over the topics after it, and first of
+/// the topic that it turned, if any.
+pub fn tell_message(
+    alloc: Global,
+    client: &mut Open,
+    place: u64,
+    table: &Table,
+    conn: u32,
+    msg: &Msg,
+    changes: &[Change],
+    turned: Option<u32>,
+) -> Result<(), AllocError>
+    ensures { OnOk result (client.new ≡ message_noted place table.now.topics conn msg.now
+        changes.now (turn_noted place turned client.old)) }
+{
+    if let Some(id) = turned {
+        client.outbox.turned(place, id);
+    }
+    if client.conn == conn {
+        tell_sender(alloc, client, place, table, msg, changes)
+    } else {
+        tell_changes(alloc, client, place, table, changes)
     }
 }

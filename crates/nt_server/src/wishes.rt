@@ -11,8 +11,7 @@ use nt_subs::SubSet;
 use nt_table::Table;
 use std::alloc::{AllocError, Global};
 
-/// Tells an outbox how much each topic and meta topic was wanted, and is now. It fails for want of
-/// memory alone.
+/// Tells an outbox how much each topic and meta topic was wanted, and is now.
 #[tactic(auto, using(crate::proofs::Lists::drop_at))]
 pub fn rewant(
     alloc: Global,

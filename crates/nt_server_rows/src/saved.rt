@@ -14,25 +14,45 @@ use std::test::Fail;
 /// The most bytes of the properties of a topic.
 const MOST_PROPERTIES: u64 = 65_536;
 
-/// A saved topic with a whole number.
-fn saved(alloc: Global, name: &str, props: &str, number: i64) -> Result<Saved, Fail>
+/// A saved topic of whole numbers, with one or without. It has one only where it is cached.
+fn saved(alloc: Global, name: &str, props: &str, number: Option<i64>) -> Result<Saved, Fail>
     ensures { IfOk result IsRestorable }
 {
     let props = props_of(alloc, props)?;
-    let value = Value::Int(number);
-    if is_special(name) || props.text_len() > MOST_PROPERTIES || !value.fits("int") {
+    if is_special(name) || props.text_len() > MOST_PROPERTIES {
         return Err(Fail::from("no topic that can be restored"));
     }
-    Ok(Saved {
-        name: TopicName::of(alloc, name)?,
-        typ: TypeName::of(alloc, "int")?,
-        props,
-        value: Some(value),
-    })
+    let name = TopicName::of(alloc, name)?;
+    let typ = TypeName::of(alloc, "int")?;
+    match number {
+        Some(number) => {
+            let value = Value::Int(number);
+            if !props.cached() || !value.fits("int") {
+                return Err(Fail::from("no value that can be restored"));
+            }
+            Ok(Saved {
+                name,
+                typ,
+                props,
+                value: Some(value),
+            })
+        }
+        None => Ok(Saved {
+            name,
+            typ,
+            props,
+            value: None,
+        }),
+    }
 }
 
-/// A server that begins with one topic, a whole number, and grants one permit.
-pub fn restored(alloc: Global, name: &str, props: &str, number: i64) -> Result<Server, Fail> {
+/// A server that begins with one topic of whole numbers, and grants one permit.
+pub fn restored(
+    alloc: Global,
+    name: &str,
+    props: &str,
+    number: Option<i64>,
+) -> Result<Server, Fail> {
     let topic = saved(alloc, name, props, number)?;
     Ok(Server::restore(alloc, 1, vec![in alloc; topic]?)?)
 }

@@ -71,7 +71,7 @@ const PERSISTENT: &[Row] = &[
 #[test]
 fn topics_are_saved(rt: HostRuntime) -> Result<(), Fail> {
     let alloc = rt.alloc();
-    let server = restored(alloc, "/a", r#"{"persistent":true}"#, 5)?;
+    let server = restored(alloc, "/a", r#"{"persistent":true}"#, Some(5))?;
     let other = first_other(alloc, server, RESTORED)?;
     assert_eq!(rt; other.as_str(), "", "a_server_begins_with_saved_topics");
     let other = first_other(alloc, Server::new(alloc, 0)?, PERSISTENT)?;

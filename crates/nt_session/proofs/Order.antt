@@ -14,7 +14,8 @@ whole-behind : (begun : List ℕ) (values : List ValueMsg)
     → flat_map bytes_in (frames_behind begun values) ≡ begun ++ frame_of values
 whole-behind begun [] = whole-begun begun
 whole-behind begun (value ∷ values) =
-    by (is_apart begun value) (whole-behind (spelling_of value) values) (whole-behind (begun ++ spelling_of value) values)
+    by (is_apart begun value) (whole-behind (spelling_of value) values)
+    (whole-behind (begun ++ spelling_of value) values)
   where
     by : (b : Bool)
         → flat_map bytes_in (frames_behind (spelling_of value) values) ≡ spelling_of value ++ frame_of values

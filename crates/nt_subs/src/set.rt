@@ -56,7 +56,7 @@ impl SubSet {
         }
     }
 
-    /// An equal set. It fails for want of memory alone.
+    /// An equal set.
     pub fn copy(&self, alloc: Global) -> Result<SubSet, AllocError>
         ensures { IfOk result (λ subs. subs ≡ self.now) }
     {
@@ -68,8 +68,7 @@ impl SubSet {
 
     /// Adds a subscription at its uid, in place of any that stands there. `TooMany` comes exactly
     /// where afterwards there would be more than 1,024, or their names would have more than 131,072
-    /// bytes, each with 8 more. It fails for want of memory alone. Then, and at `TooMany`, the set
-    /// is as it was.
+    /// bytes, each with 8 more. For want of memory, and at `TooMany`, the set is as it was.
     pub fn add(&mut self, uid: i64, sub: Sub) -> Result<Added, AllocError>
         ensures answer { IfOk result (λ answer. answer ≡ added uid sub self.old) }
         ensures subs { OnOk result (self.new ≡ after uid sub self.old) }
@@ -158,7 +157,7 @@ impl SubSet {
     }
 }
 
-/// Equal subscriptions. It fails for want of memory alone.
+/// Equal subscriptions.
 fn copy_entries(alloc: Global, entries: &[(i64, Sub)]) -> Result<Vec<(i64, Sub)>, AllocError>
     ensures { IfOk result (λ copied. copied.items ≡ entries.now) }
 {

@@ -42,7 +42,7 @@ impl Sub {
         false
     }
 
-    /// An equal subscription. It fails for want of memory alone.
+    /// An equal subscription.
     pub fn copy(&self, alloc: Global) -> Result<Sub, AllocError>
         ensures { IfOk result (λ sub. sub ≡ self.now) }
     {
@@ -53,7 +53,7 @@ impl Sub {
     }
 }
 
-/// Equal names. It fails for want of memory alone.
+/// Equal names.
 pub fn copy_names(alloc: Global, names: &Names) -> Result<Names, AllocError>
     ensures { IfOk result (λ copied. copied ≡ names.now) }
 {

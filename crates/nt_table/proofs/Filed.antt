@@ -6,7 +6,7 @@ use Rattle.std.proofs.lemmas.Bool.Decides.{Decides-eqb}
 use Rattle.std.proofs.lemmas.Slice.Eq.{bytes_eq-Decides}
 use Rattle.nt_rules.specs.declared.topic.Topic.{Topic}
 use Rattle.nt_rules.specs.declared.topic.Pub.{Pub}
-use Rattle.nt_rules.specs.topics.Topics.{is_publisher, is_of, is_named, has_publisher, change_first, left_of, lives_on, without_publisher, without_conn, with_publisher, outlives, dropped, unpublished}
+use Rattle.nt_rules.specs.topics.Topics.{is_publisher, is_of, is_named, has_publisher, change_first, if_it_lives_on, lives_on, without_publisher, without_conn, with_publisher, outlives, dropped, unpublished}
 use Rattle.nt_rules.specs.topics.Changes.{drop_changes, ended}
 use Rattle.nt_table.specs.Index.{one, number, total, is_at, IsRising, IsFiled, AreFiled}
 use Rattle.nt_table.proofs.Numbers.{number-none, number-same, number-push, any-none, any-number, none-counted, is-of, is_key, key-same, key-apart, not-true, not-false, of-publisher}
@@ -62,7 +62,7 @@ KeepsId t None = Unit {0}
 KeepsId t (Some u) = u.id ≡ t.id
 
 -- what is left of a topic keeps its id
-pub left-id : (t s : Topic) → s.id ≡ t.id → KeepsId t (left_of s)
+pub left-id : (t s : Topic) → s.id ≡ t.id → KeepsId t (if_it_lives_on s)
 left-id t s e = by (lives_on s)
   where
     by : (b : Bool) → KeepsId t (cond b (Some s) None)
@@ -260,7 +260,7 @@ module _ (names : List ℕ → Option ℕ) (ids : ℕ → ℤ → Option ℕ) (n
           ∙ h.published c u ∙ sym (ap one (at-same (ids c u) t (without_publisher conn uid t) refl))
           ∙ sym (ap (λ o. one (is_at o (without_publisher conn uid t))) (says c u ∙ ap (λ b. cond b None (ids c u)) e))
 
-  left-filed : (t : Topic) → IsFiled names ids-2 next t → FiledLeft names ids next names ids-2 next (left_of t)
+  left-filed : (t : Topic) → IsFiled names ids-2 next t → FiledLeft names ids next names ids-2 next (if_it_lives_on t)
   left-filed t h = by (lives_on t)
     where
       by : (b : Bool) → FiledLeft names ids next names ids-2 next (cond b (Some t) None)
@@ -271,7 +271,7 @@ module _ (names : List ℕ → Option ℕ) (ids : ℕ → ℤ → Option ℕ) (n
       → AreFiled names ids-2 next (unpublished ts conn uid)
   filed-unpublished ts least r k =
       filed-changed names ids next names ids-2 next (has_publisher conn uid)
-      (λ t. left_of (without_publisher conn uid t)) ts least
+      (λ t. if_it_lives_on (without_publisher conn uid t)) ts least
       (λ t h e. still t h (none-counted (is_publisher conn uid) t.pubs e))
       (λ t s h e less g. still s g (g.published conn uid
       ∙ ap one (at-one (ids conn uid) t s less (sym (has-at names ids next conn uid t h) ∙ e))))

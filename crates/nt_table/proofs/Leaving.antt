@@ -10,7 +10,7 @@ use Rattle.nt_rules.specs.declared.topic.Topic.{Topic}
 use Rattle.nt_rules.specs.declared.topic.Pub.{Pub}
 use Rattle.nt_rules.specs.declared.topic.Change.{Change}
 use Rattle.nt_rules.specs.topics.Topics.{is_publisher, is_of, has_conn, lives_on, change_first, without_conn, outlives, dropped}
-use Rattle.nt_rules.specs.topics.Changes.{told_by, drop_changes, ended}
+use Rattle.nt_rules.specs.topics.Changes.{if_found, drop_changes, ended}
 use Rattle.nt_table.specs.Index.{number, total, is_at, left_by, IsRising, AreFiled, AreSaid, AreAmong}
 use Rattle.nt_rules.proofs.Positions.{find-none, change-none}
 use Rattle.nt_table.proofs.Numbers.{number-none, any-none, none-counted, not-true}
@@ -98,7 +98,7 @@ module _ (conn : ℕ) where
 
   -- what it told
   abbrev pub told : ℕ → List Topic → List Change
-  told id ts = told_by (λ t. drop_changes (t ∷ []) conn) (find (is_at (Some id)) ts)
+  told id ts = if_found (λ t. drop_changes (t ∷ []) conn) (find (is_at (Some id)) ts)
 
   -- those that outlive the connection, and those that don't
   abbrev lasting : List Topic → List Topic
@@ -139,12 +139,12 @@ module _ (conn : ℕ) where
   told-left id least ids (t ∷ ts) up a r =
       by (is_at (Some id) t) refl (outlives conn t) refl (told-left id (t.id + 1) ids ts up a.1 r.1)
     where
-      told_of : Option Topic → List Change
-      told_of o = told_by (λ t. drop_changes (t ∷ []) conn) o
+      told_settings : Option Topic → List Change
+      told_settings o = if_found (λ t. drop_changes (t ∷ []) conn) o
 
       by : (b : Bool) → is_at (Some id) t ≡ b → (c : Bool) → outlives conn t ≡ c
           → told id ts ++ drop_changes (after id ts) conn ≡ drop_changes ts conn
-          → told_of (cond b (Some t) (find (is_at (Some id)) ts))
+          → told_settings (cond b (Some t) (find (is_at (Some id)) ts))
           ++ drop_changes
           (cond b (cons_option (cond c (Some (without_conn conn t)) None) ts) (t ∷ after id ts)) conn
           ≡ map ended (cond (not c) (t ∷ ending ts) (ending ts))
@@ -160,7 +160,7 @@ module _ (conn : ℕ) where
           let le : id ≤ t.id = first-least id t.id ids up (a.0 (ends-has t e)) in
           let less : id < t.id + 1 = omega (arith, le) in
           let none : list_any (is_at (Some id)) ts ≡ false = none-at id (t.id + 1) ts less r.1 in
-          ap (λ o. told_of o ++ drop_changes (t ∷ after id ts) conn) (find-none (is_at (Some id)) ts none)
+          ap (λ o. told_settings o ++ drop_changes (t ∷ after id ts) conn) (find-none (is_at (Some id)) ts none)
           ∙ ap (λ us. drop_changes (t ∷ us) conn) (change-none (is_at (Some id)) (left_by conn) ts none)
           ∙ ap (λ d. map ended (cond (not d) (t ∷ ending ts) (ending ts))) e
 

@@ -7,7 +7,7 @@ use Rattle.std.proofs.lemmas.List.Recursion.{is_count_by}
 use Rattle.nt_topics.specs.Properties.{is_persistent, is_retained}
 use Rattle.nt_rules.specs.declared.topic.Topic.{Topic}
 use Rattle.nt_rules.specs.declared.topic.Pub.{Pub}
-use Rattle.nt_rules.specs.topics.Topics.{is_publisher, is_of, has_publisher, publishers_of, change_first, left_of, without_publisher, without_conn, outlives, dropped, unpublished}
+use Rattle.nt_rules.specs.topics.Topics.{is_publisher, is_of, has_publisher, publishers_of, change_first, if_it_lives_on, without_publisher, without_conn, outlives, dropped, unpublished}
 use Rattle.nt_table.specs.Index.{one, number, total}
 
 -- ---- the publishers of one topic
@@ -186,7 +186,7 @@ total-left test None ts = omega arith
 total-left test (Some t) ts = refl
 
 -- a topic that doesn't live on has no publishers
-pub left-number : (test : Pub → Bool) (t : Topic) → number_left test (left_of t) ≡ number test t.pubs
+pub left-number : (test : Pub → Bool) (t : Topic) → number_left test (if_it_lives_on t) ≡ number test t.pubs
 left-number test t = by (ltb 0 (length t.pubs)) (is_persistent t.props || is_retained t.props) refl
   where
     by : (b flag : Bool) → ltb 0 (length t.pubs) ≡ b
@@ -247,7 +247,7 @@ not-true false h = absurd (cc)
 
 module _ (conn : ℕ) (uid : ℤ) where
   left-without : (test : Pub → Bool) (t : Topic)
-      → number_left test (left_of (without_publisher conn uid t))
+      → number_left test (if_it_lives_on (without_publisher conn uid t))
       ≡ number test (filter (λ p. not (is_publisher conn uid p)) t.pubs)
   left-without test t = left-number test (without_publisher conn uid t)
 
@@ -256,7 +256,7 @@ module _ (conn : ℕ) (uid : ℤ) where
       → ((p : Pub) → test p ≡ true → is_publisher conn uid p ≡ false)
       → total test (unpublished ts conn uid) ≡ total test ts
   unpublished-others test ts h =
-      total-kept test (has_publisher conn uid) (λ t. left_of (without_publisher conn uid t)) ts
+      total-kept test (has_publisher conn uid) (λ t. if_it_lives_on (without_publisher conn uid t)) ts
       (λ t. left-without test t ∙ number-same test (λ p. not (is_publisher conn uid p)) t.pubs
       (λ p k. not-false (is_publisher conn uid p) (h p k)))
 
@@ -267,17 +267,17 @@ module _ (conn : ℕ) (uid : ℤ) where
       ≡ total test ts + total (is_publisher conn uid) (unpublished ts conn uid)
   unpublished-those test [] h = refl
   unpublished-those test (t ∷ ts) h =
-      let a = total-changed test (has_publisher conn uid) (λ t. left_of (without_publisher conn uid t)) t ts in
+      let a = total-changed test (has_publisher conn uid) (λ t. if_it_lives_on (without_publisher conn uid t)) t ts in
       let b = total-changed (is_publisher conn uid) (has_publisher conn uid)
-      (λ t. left_of (without_publisher conn uid t)) t ts in
+      (λ t. if_it_lives_on (without_publisher conn uid t)) t ts in
       by (has_publisher conn uid t) a b (unpublished-those test ts h)
     where
       by : (b : Bool)
           → total test (unpublished (t ∷ ts) conn uid)
-          ≡ cond b (number_left test (left_of (without_publisher conn uid t)) + total test ts)
+          ≡ cond b (number_left test (if_it_lives_on (without_publisher conn uid t)) + total test ts)
           (number test t.pubs + total test (unpublished ts conn uid))
           → total (is_publisher conn uid) (unpublished (t ∷ ts) conn uid)
-          ≡ cond b (number_left (is_publisher conn uid) (left_of (without_publisher conn uid t)) + total
+          ≡ cond b (number_left (is_publisher conn uid) (if_it_lives_on (without_publisher conn uid t)) + total
           (is_publisher conn uid) ts)
           (number (is_publisher conn uid) t.pubs + total (is_publisher conn uid) (unpublished ts conn uid))
           → total test (unpublished ts conn uid) + total (is_publisher conn uid) ts
@@ -300,12 +300,13 @@ module _ (conn : ℕ) (uid : ℤ) where
       → total (is_publisher conn uid) (unpublished ts conn uid) ≡ 0
   unpublished-gone [] h = refl
   unpublished-gone (t ∷ ts) h =
-      total-changed (is_publisher conn uid) (has_publisher conn uid) (λ t. left_of (without_publisher conn uid t)) t ts
+      total-changed (is_publisher conn uid) (has_publisher conn uid)
+      (λ t. if_it_lives_on (without_publisher conn uid t)) t ts
       ∙ by (has_publisher conn uid t) refl (λ k. unpublished-gone ts k)
     where
       by : (b : Bool) → has_publisher conn uid t ≡ b
           → (total (is_publisher conn uid) ts ≤ 1 → total (is_publisher conn uid) (unpublished ts conn uid) ≡ 0)
-          → cond b (number_left (is_publisher conn uid) (left_of (without_publisher conn uid t)) + total
+          → cond b (number_left (is_publisher conn uid) (if_it_lives_on (without_publisher conn uid t)) + total
           (is_publisher conn uid) ts)
           (number (is_publisher conn uid) t.pubs + total (is_publisher conn uid) (unpublished ts conn uid)) ≡ 0
       by true e more =

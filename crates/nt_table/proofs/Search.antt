@@ -1,5 +1,5 @@
 -- Where the topic of an id stands among topics whose ids rise.
-use Rattle.std.proofs.Common.{◌≡◌, ◌<◌, ◌+◌, ◌==◌, ℕ, ℤ, zero, suc, Bool, true, false, not, cond, ltb, eqb, List, [], ◌∷◌, Option, Some, None, Result, Ok, Err, length, get_or, slice_get, refl, sym, ◌∙◌, ap, arith, tests}
+use Rattle.std.proofs.Common.{◌≡◌, ◌<◌, ◌+◌, ◌==◌, ℕ, ℤ, zero, suc, false, not, cond, ltb, eqb, List, [], ◌∷◌, Option, Some, None, Result, Ok, Err, length, get_or, slice_get, refl, sym, ◌∙◌, ap, arith, tests}
 use Rattle.std.specs.List.{position, position_or_len}
 use Rattle.std.specs.Prelude.{MatchResult}
 use Rattle.std.specs.Result.{result_ok}

@@ -8,14 +8,14 @@ use Rattle.std.specs.HashMap.{get, get_by_text}
 use Rattle.std.proofs.lemmas.Bool.Decides.{nat_tests, Decides-eqb}
 use Rattle.serde_json.specs.Data.{Data}
 use Rattle.nt_values.specs.declared.value.Value.{Value}
-use Rattle.nt_topics.specs.Properties.{is_persistent, is_retained}
+use Rattle.nt_topics.specs.Properties.{is_persistent, is_retained, is_cached}
 use Rattle.nt_table.specs.declared.index.Index.{Index}
 use Rattle.nt_rules.specs.declared.topic.Topic.{Topic}
 use Rattle.nt_rules.specs.declared.topic.Pub.{Pub}
 use Rattle.nt_rules.specs.declared.topic.Saved.{Saved}
 use Rattle.nt_rules.specs.declared.topic.Cause.{Cause}
 use Rattle.nt_rules.specs.declared.topic.Cause.TheVariants.{NoSuchUid}
-use Rattle.nt_rules.specs.topics.Topics.{without_publisher, is_publisher, is_of, is_named, has_publisher, publishers_of, change_first, if_counts, left_of, with_publisher, new_topic, published, next_after, unpublish_cause, unpublished, dropped, with_update, with_props, with_value, with_put, restored, restored_topic}
+use Rattle.nt_rules.specs.topics.Topics.{without_publisher, is_publisher, is_of, is_named, has_publisher, publishers_of, change_first, if_counts, if_it_lives_on, with_publisher, new_topic, published, next_after, unpublish_cause, unpublished, dropped, with_update, with_props, with_value, with_put, restored, restored_topic}
 use Rattle.nt_table.specs.Index.{one, number, total, is_at, id_named, id_in, id_of, count_in, count_of, IsRising, IsFiled, IsIndexed}
 use Rattle.nt_rules.proofs.Positions.{change-none, first-position}
 use Rattle.nt_table.proofs.Numbers.{any-none, any-some, number-push, number-empty, is-of, of-publisher, is_key, key-same, key-apart, total-publishers, total-push, number_left, total-kept, total-added, unpublished-others, unpublished-those, unpublished-gone, dropped-others, dropped-own}
@@ -122,15 +122,21 @@ module _ (ix : Index) (ts : List Topic) (next : ℕ) (h : IsIndexed ix ts next) 
       → IsIndexed ix (if_counts cause (with_put ts conn uid time value) ts) next
   indexed-put conn uid time value cause =
       indexed-counts cause (with_put ts conn uid time value)
-      (indexed-kept (has_publisher conn uid) (λ t. Some (with_value time value t)) (λ t. (refl, refl, refl)))
+      (indexed-kept (has_publisher conn uid) (λ t. Some (with_value time value t)) (λ t. by t (is_cached t.props)))
+    where
+      by : (t : Topic) (b : Bool)
+          → Keeps t (Some (cond b (record t { value = Some (record { time = time; value = value }) }) t))
+      by t true = (refl, refl, refl)
+      by t false = (refl, refl, refl)
 
   pub indexed-props : (name : List ℕ) (u : Data) (cause : Option Cause)
       → IsIndexed ix (if_counts cause (with_props ts name u) ts) next
   indexed-props name u cause =
       indexed-counts cause (with_props ts name u)
-      (indexed-kept (is_named name) (λ t. left_of (with_update u t)) (λ t. left t (with_update u t) refl refl refl))
+      (indexed-kept (is_named name) (λ t. if_it_lives_on (with_update u t))
+      (λ t. left t (with_update u t) refl refl refl))
     where
-      left : (t s : Topic) → s.id ≡ t.id → s.name ≡ t.name → s.pubs ≡ t.pubs → Keeps t (left_of s)
+      left : (t s : Topic) → s.id ≡ t.id → s.name ≡ t.name → s.pubs ≡ t.pubs → Keeps t (if_it_lives_on s)
       left t s i n p = by (ltb 0 (length s.pubs)) (is_persistent s.props || is_retained s.props) refl
         where
           by : (b flag : Bool) → ltb 0 (length s.pubs) ≡ b → Keeps t (cond (b || flag) (Some s) None)
@@ -193,7 +199,7 @@ module _ (ix : Index) (ts : List Topic) (next : ℕ) (h : IsIndexed ix ts next) 
     pub indexed-without : IsIndexed ix-2 (unpublished ts conn uid) next
     indexed-without = record {
       rising =
-          rising-changed 0 (has_publisher conn uid) (λ t. left_of (without_publisher conn uid t)) ts
+          rising-changed 0 (has_publisher conn uid) (λ t. if_it_lives_on (without_publisher conn uid t)) ts
           (λ t. left-id t (without_publisher conn uid t) refl) h.rising;
       filed =
           filed-says (id_named ix) (id_of ix-2) next (id_named ix-2) (id_of ix-2) (unpublished ts conn uid)
@@ -492,14 +498,15 @@ pub rising-unpublished : (ts : List Topic) (conn : ℕ) (uid : ℤ) (cause : Opt
     → IsRising 0 (if_counts cause (unpublished ts conn uid) ts)
 rising-unpublished ts conn uid cause r =
     rising-counts cause (unpublished ts conn uid) ts
-    (rising-changed 0 (has_publisher conn uid) (λ t. left_of (without_publisher conn uid t)) ts
+    (rising-changed 0 (has_publisher conn uid) (λ t. if_it_lives_on (without_publisher conn uid t)) ts
     (λ t. left-id t (without_publisher conn uid t) refl) r) r
 
 pub rising-props : (ts : List Topic) (name : List ℕ) (u : Data) (cause : Option Cause) → IsRising 0 ts
     → IsRising 0 (if_counts cause (with_props ts name u) ts)
 rising-props ts name u cause r =
     rising-counts cause (with_props ts name u) ts
-    (rising-changed 0 (is_named name) (λ t. left_of (with_update u t)) ts (λ t. left-id t (with_update u t) refl) r) r
+    (rising-changed 0 (is_named name) (λ t. if_it_lives_on (with_update u t)) ts (λ t. left-id t (with_update u t) refl)
+    r) r
 
 -- an unpublish that is refused takes none out
 pub unpublished-either : (ts : List Topic) (conn : ℕ) (uid : ℤ)
@@ -509,7 +516,7 @@ unpublished-either ts conn uid = by (list_any (has_publisher conn uid) ts) refl
     by : (b : Bool) → list_any (has_publisher conn uid) ts ≡ b
         → if_counts (cond b None (Some NoSuchUid)) (unpublished ts conn uid) ts ≡ unpublished ts conn uid
     by true e = refl
-    by false e = sym (change-none (has_publisher conn uid) (λ t. left_of (without_publisher conn uid t)) ts e)
+    by false e = sym (change-none (has_publisher conn uid) (λ t. if_it_lives_on (without_publisher conn uid t)) ts e)
 
 -- ---- at a call, whose arguments are equal
 

@@ -4,9 +4,9 @@ ghost use Rattle.std.specs.Prelude.{◌≡◌, ◌+◌, ◌<◌, vec_len, pos, o
 ghost use Rattle.std.specs.List.{position, find};
 ghost use Rattle.std.specs.List.Sorted.{IsStrictlyIncreasing};
 ghost use Rattle.nt_table.specs.Index.{is_at, left_by, IsRising, AreAmong};
-ghost use Rattle.nt_rules.specs.topics.Topics.{is_named, has_publisher, change_at, change_first, if_counts, left_of, with_update, new_topic, publish_cause, published, next_after, unpublish_cause, unpublished, update_cause, with_props, put_cause, with_put, dropped, restore_cause, restored, restored_topic, at_zero};
+ghost use Rattle.nt_rules.specs.topics.Topics.{is_named, has_publisher, change_at, change_first, if_counts, if_it_lives_on, with_update, new_topic, publish_cause, published, next_after, unpublish_cause, unpublished, update_cause, with_props, put_cause, with_put, dropped, restore_cause, restored, restored_topic, at_zero};
 ghost use Rattle.nt_topics.specs.Properties.{updated};
-ghost use Rattle.nt_rules.specs.topics.Changes.{outcome_of, told_by, update_change, publish_changes, unpublish_changes, update_changes, put_changes, drop_changes, restored_value, restore_changes};
+ghost use Rattle.nt_rules.specs.topics.Changes.{outcome_of, if_found, update_change, publish_changes, unpublish_changes, update_changes, put_changes, drop_changes, restored_value, restore_changes};
 
 use crate::edit::{
     add_publisher, changed, drop_publisher, end_of, ended, leave, one, put_to, settle, started,
@@ -108,6 +108,7 @@ pub fn unpublish(
 }
 
 /// Gives the topic its updated properties, and tells it and then its end where it doesn't live on.
+/// Its value goes where they change whether it is cached.
 fn update_topic(
     alloc: Global,
     topic: &mut Topic,
@@ -118,6 +119,9 @@ fn update_topic(
     ensures topic { OnOk result (topic.new ≡ with_update update topic.old) }
     ensures changes { IfOk result (λ changes. changes ≡ update_change update topic.old) }
 {
+    if props.cached() != topic.props.cached() {
+        drop(topic.value.take());
+    }
     topic.props = props;
     let mut changes = one(
         alloc,
@@ -202,7 +206,7 @@ fn leave_topic(
 ) -> Result<(), AllocError>
     requires { IsRising 0 topics.old.items }
     ensures changes { OnOk result (changes.new ≡ changes.old
-        ++ told_by (λ t. drop_changes (t ∷ []) conn) (find (is_at (Some id)) topics.old.items)) }
+        ++ if_found (λ t. drop_changes (t ∷ []) conn) (find (is_at (Some id)) topics.old.items)) }
     ensures topics { OnOk result (topics.new.items
         ≡ change_first (is_at (Some id)) (left_by conn) topics.old.items) }
 {

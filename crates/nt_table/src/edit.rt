@@ -1,7 +1,7 @@
 //! Changing topics, and telling the changes.
 
 ghost use Rattle.std.specs.Prelude.{◌≡◌, ◌<◌, vec_len, remove, map, filter, not, pos, None, [], ◌∷◌, ◌++◌, IfOk, OnOk};
-ghost use Rattle.nt_rules.specs.topics.Topics.{change_at, is_publisher, is_of, left_of, if_counts, put_cause_to, with_value, with_publisher, without_publisher, without_conn, new_topic, outlives, dropped};
+ghost use Rattle.nt_rules.specs.topics.Topics.{change_at, is_publisher, is_of, if_it_lives_on, if_counts, put_cause_to, with_value, with_publisher, without_publisher, without_conn, new_topic, outlives, dropped};
 ghost use Rattle.nt_table.specs.Index.{left_by};
 ghost use Rattle.nt_rules.specs.topics.Changes.{outcome_of, ended, end_of, put_change, drop_changes};
 
@@ -60,7 +60,7 @@ pub fn started(
     })
 }
 
-/// A new value of a topic.
+/// A value of a topic that was taken.
 pub fn changed(
     alloc: Global,
     id: u32,
@@ -103,7 +103,8 @@ fn drop_conn(alloc: Global, topic: &mut Topic, conn: u32)
     topic.pubs = Pubs::of_vec(publishers);
 }
 
-/// Puts a value to its publisher's topic, or says why it is refused.
+/// Puts a value to its publisher's topic, which holds it where it is cached, or says why it is
+/// refused.
 pub fn put_to(
     alloc: Global,
     topic: &mut Topic,
@@ -124,14 +125,18 @@ pub fn put_to(
         return Ok(Outcome::Ignored(cause));
     }
     let changes = one(alloc, changed(alloc, topic.id, &topic.name, time, &value)?)?;
-    topic.value = Some(Timed { time, value });
+    if topic.props.cached() {
+        topic.value = Some(Timed { time, value });
+    } else {
+        drop(value);
+    }
     Ok(Outcome::Done(changes))
 }
 
 /// Takes the topic at a position out where nothing of it is left.
 pub fn settle(topics: &mut Vec<Topic>, i: usize)
     requires { i < vec_len topics.old }
-    ensures { topics.new.items ≡ change_at left_of i topics.old.items }
+    ensures { topics.new.items ≡ change_at if_it_lives_on i topics.old.items }
 {
     if !lives_on(&topics[i]) {
         let _gone = topics.remove(i);

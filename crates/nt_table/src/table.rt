@@ -1,9 +1,10 @@
 //! The table of topics.
 
 ghost use Rattle.nt_rules.specs.declared.topic.Topic.{Topic};
-ghost use Rattle.std.specs.Prelude.{ℕ, ◌≡◌, ◌+◌, ◌^◌, ◌<◌, true, false, [], OnOk, OnErr, IfOk, option_copied, length, slice_get, Some};
+ghost use Rattle.std.specs.Prelude.{ℕ, ◌≡◌, ◌+◌, ◌^◌, ◌<◌, true, false, [], OnOk, OnErr, IfOk, IfSome, option_copied, length, slice_get, Some};
 ghost use Rattle.std.specs.List.{find, list_any};
 ghost use Rattle.nt_topics.specs.Names.{is_special};
+ghost use Rattle.nt_topics.specs.Properties.{is_cached};
 ghost use Rattle.nt_rules.specs.topics.Topics.{TableState, is_named, if_counts, publish_cause, published, next_after, unpublish_cause, unpublished, update_cause, with_props, put_cause, with_put, dropped, restore_cause, restored};
 ghost use Rattle.nt_rules.specs.topics.Changes.{outcome_of, publish_changes, unpublish_changes, update_changes, put_changes, drop_changes, restore_changes};
 
@@ -55,13 +56,14 @@ impl Table {
         }
     }
 
-    /// Begins a saved topic, with the next id and no publisher. Its value has the time 0.
+    /// Begins a saved topic, with the next id and no publisher. Its value, which it has only where
+    /// it is cached, has the time 0.
     ///
-    /// It is ignored with the first of `TopicsFull`, `IdsSpent` and `OtherType` that holds. It
-    /// fails for want of memory alone.
+    /// It is ignored with the first of `TopicsFull`, `IdsSpent` and `OtherType` that holds.
     pub fn restore(&mut self, alloc: Global, saved: Saved) -> Result<Outcome, AllocError>
         requires unnamed { list_any (is_named saved.name) self.old.topics ≡ false }
         requires plain { is_special saved.name ≡ false }
+        requires held { IfSome saved.value (λ v. is_cached saved.props ≡ true) }
         ensures answer { IfOk result (λ o. o ≡ outcome_of
             (restore_cause self.old.topics self.old.next saved)
             (restore_changes self.old.next saved)) }
@@ -92,8 +94,7 @@ impl Table {
     /// the next id and these (NetworkTables 4.1, "Publish Request Message").
     ///
     /// It is ignored with the first of `Special`, `UidInUse`, `PubsFull` and, where no topic of
-    /// that name lives, `PropsFull`, `TopicsFull` and `IdsSpent` that holds. It fails for want of
-    /// memory alone.
+    /// that name lives, `PropsFull`, `TopicsFull` and `IdsSpent` that holds.
     pub fn publish(
         &mut self,
         alloc: Global,
@@ -138,7 +139,7 @@ impl Table {
     /// Takes the publisher out, and ends its topic where nothing of it is left (NetworkTables 4.1,
     /// "Unpublish Request Message").
     ///
-    /// It is ignored exactly with `NoSuchUid`. It fails for want of memory alone.
+    /// It is ignored exactly with `NoSuchUid`.
     pub fn unpublish(&mut self, alloc: Global, conn: u32, uid: i64) -> Result<Outcome, AllocError>
         ensures answer { IfOk result (λ o. o ≡ outcome_of
             (unpublish_cause self.old.topics conn uid)
@@ -160,10 +161,10 @@ impl Table {
     }
 
     /// Updates the properties of the topic of this name, and ends it where nothing of it is left
-    /// (NetworkTables 4.1, "Set Properties Message").
+    /// (NetworkTables 4.1, "Set Properties Message"). Where they change whether it is cached, its
+    /// value goes, which isn't told.
     ///
-    /// It is ignored with the first of `NoTopic` and `PropsFull` that holds. It fails for want of
-    /// memory alone.
+    /// It is ignored with the first of `NoTopic` and `PropsFull` that holds.
     pub fn set_props(
         &mut self,
         alloc: Global,
@@ -190,10 +191,9 @@ impl Table {
     }
 
     /// Puts a value, with a time in microseconds, to the topic of the publisher (NetworkTables 4.1,
-    /// "MessagePack Data").
+    /// "MessagePack Data"). It is told, and held where the topic is cached.
     ///
-    /// It is ignored with the first of `NoSuchUid`, `OtherType` and `Older` that holds. It fails
-    /// for want of memory alone.
+    /// It is ignored with the first of `NoSuchUid`, `OtherType` and `Older` that holds.
     pub fn put(
         &mut self,
         alloc: Global,
@@ -224,7 +224,7 @@ impl Table {
     }
 
     /// Takes the connection's publishers out, and ends the topics of which nothing is left, by
-    /// rising id. It fails for want of memory alone.
+    /// rising id.
     pub fn drop_conn(&mut self, alloc: Global, conn: u32) -> Result<Changes, AllocError>
         ensures changes { IfOk result (λ changes. changes ≡ drop_changes self.old.topics conn) }
         ensures topics { OnOk result (self.new.topics ≡ dropped self.old.topics conn) }

@@ -66,6 +66,21 @@ enum Call {
     PutText(u32, i64, u32, &'static str),
     SetProps(&'static str, &'static str),
     Drop(u32),
+    Held(&'static str),
+}
+
+/// The time of the value that the topic of this name holds.
+fn held_line(alloc: Global, table: &Table, name: &str) -> Result<String, AllocError> {
+    match table.topic(name) {
+        Some(topic) => match &topic.value {
+            Some(held) => {
+                let time = held.time;
+                format!(in alloc; "held at {time}")
+            }
+            None => format!(in alloc; "held none"),
+        },
+        None => format!(in alloc; "no topic"),
+    }
 }
 
 fn put(
@@ -110,6 +125,7 @@ fn answer(alloc: Global, table: &mut Table, call: &Call) -> Result<String, Fail>
             let changes = table.drop_conn(alloc, *conn)?;
             Ok(changes_line(alloc, changes.as_slice())?)
         }
+        Call::Held(name) => Ok(held_line(alloc, table, name)?),
     }
 }
 
@@ -174,6 +190,102 @@ const EDGES: &[(Call, &str)] = &[
     (Call::Drop(2), ""),
     (Call::Drop(1), "Ended 2 /b;Ended 4 /a;"),
     (Call::Publish(1, 1, "/b", "int", "{}"), "Started 5 /b int;"),
+];
+
+/// A topic that isn't cached from its start: an earlier time after a later one is taken, and none
+/// of its values is held. It is cached again where the key goes.
+const UNCACHED: &[(Call, &str)] = &[
+    (
+        Call::Publish(1, 1, "/a", "int", r#"{"cached":false}"#),
+        "Started 1 /a int;",
+    ),
+    (Call::Held("/a"), "held none"),
+    (Call::PutInt(1, 1, 20, 1), "Changed 1 /a 20;"),
+    (Call::Held("/a"), "held none"),
+    (Call::PutInt(1, 1, 10, 2), "Changed 1 /a 10;"),
+    (Call::PutInt(1, 1, 0, 3), "Changed 1 /a 0;"),
+    (Call::PutText(1, 1, 30, "x"), "OtherType"),
+    (Call::PutInt(1, 2, 30, 1), "NoSuchUid"),
+    (Call::Held("/a"), "held none"),
+    // another key, what is so already, and a number that isn't whole, which is passed over
+    (Call::SetProps("/a", r#"{"x":1}"#), "Props 1 /a;"),
+    (Call::SetProps("/a", r#"{"cached":false}"#), "Props 1 /a;"),
+    (Call::SetProps("/a", r#"{"cached":0.5}"#), "Props 1 /a;"),
+    (Call::PutInt(1, 1, 20, 4), "Changed 1 /a 20;"),
+    (Call::PutInt(1, 1, 5, 5), "Changed 1 /a 5;"),
+    (Call::Held("/a"), "held none"),
+    (Call::SetProps("/a", r#"{"cached":null}"#), "Props 1 /a;"),
+    (Call::Held("/a"), "held none"),
+    (Call::PutInt(1, 1, 3, 6), "Changed 1 /a 3;"),
+    (Call::Held("/a"), "held at 3"),
+    (Call::PutInt(1, 1, 2, 7), "Older"),
+    // a publish to a living topic says nothing of its properties
+    (Call::Publish(2, 1, "/a", "int", r#"{"cached":false}"#), ""),
+    (Call::Held("/a"), "held at 3"),
+];
+
+/// Updates of a topic that holds a value: only false drops it, and what isn't false brings back a
+/// topic that is cached and holds none.
+const TURNS: &[(Call, &str)] = &[
+    (Call::Publish(1, 1, "/a", "int", "{}"), "Started 1 /a int;"),
+    (Call::PutInt(1, 1, 20, 1), "Changed 1 /a 20;"),
+    (Call::SetProps("/a", r#"{"x":false}"#), "Props 1 /a;"),
+    (Call::SetProps("/a", r#"{"cached":0}"#), "Props 1 /a;"),
+    (Call::SetProps("/a", r#"{"cached":"false"}"#), "Props 1 /a;"),
+    (
+        Call::SetProps("/a", r#"{"cached":{"x":null}}"#),
+        "Props 1 /a;",
+    ),
+    (Call::SetProps("/a", r#"{"cached":true}"#), "Props 1 /a;"),
+    (Call::SetProps("/a", r#"{"cached":null}"#), "Props 1 /a;"),
+    (Call::Held("/a"), "held at 20"),
+    (Call::PutInt(1, 1, 10, 2), "Older"),
+    (Call::SetProps("/a", r#"{"cached":false}"#), "Props 1 /a;"),
+    (Call::Held("/a"), "held none"),
+    (Call::PutInt(1, 1, 10, 3), "Changed 1 /a 10;"),
+    (Call::SetProps("/a", r#"{"cached":true}"#), "Props 1 /a;"),
+    (Call::Held("/a"), "held none"),
+    (Call::PutInt(1, 1, 5, 4), "Changed 1 /a 5;"),
+    (Call::Held("/a"), "held at 5"),
+    (Call::SetProps("/a", r#"{"cached":false}"#), "Props 1 /a;"),
+    (
+        Call::SetProps("/a", r#"{"cached":{"x":null}}"#),
+        "Props 1 /a;",
+    ),
+    (Call::Held("/a"), "held none"),
+    (Call::PutInt(1, 1, 1, 5), "Changed 1 /a 1;"),
+    (Call::Held("/a"), "held at 1"),
+];
+
+/// A turn of a topic without a publisher, which a flag keeps, and one that takes the flag away.
+const RETAINED: &[(Call, &str)] = &[
+    (
+        Call::Publish(1, 1, "/a", "int", r#"{"retained":true}"#),
+        "Started 1 /a int;",
+    ),
+    (Call::PutInt(1, 1, 20, 1), "Changed 1 /a 20;"),
+    (Call::Unpublish(1, 1), ""),
+    (Call::Held("/a"), "held at 20"),
+    (Call::SetProps("/a", r#"{"cached":false}"#), "Props 1 /a;"),
+    (Call::Held("/a"), "held none"),
+    (Call::Publish(2, 1, "/a", "int", "{}"), ""),
+    (Call::PutInt(2, 1, 30, 2), "Changed 1 /a 30;"),
+    (Call::Drop(2), ""),
+    (Call::Held("/a"), "held none"),
+    (Call::SetProps("/a", r#"{"cached":null}"#), "Props 1 /a;"),
+    (Call::Publish(2, 1, "/a", "int", "{}"), ""),
+    (Call::PutInt(2, 1, 10, 3), "Changed 1 /a 10;"),
+    (Call::Unpublish(2, 1), ""),
+    (Call::Held("/a"), "held at 10"),
+    (
+        Call::SetProps("/a", r#"{"cached":false,"retained":null}"#),
+        "Props 1 /a;Ended 1 /a;",
+    ),
+    (Call::Held("/a"), "no topic"),
+    (Call::Publish(1, 1, "/a", "int", "{}"), "Started 2 /a int;"),
+    (Call::Held("/a"), "held none"),
+    (Call::PutInt(1, 1, 0, 4), "Changed 2 /a 0;"),
+    (Call::Held("/a"), "held at 0"),
 ];
 
 /// After 16,384 publishers of connection 1 to one topic.
@@ -266,7 +378,7 @@ fn long_answers(alloc: Global, count: u32) -> Result<String, Fail> {
 #[test]
 fn answers_each_call(rt: HostRuntime) -> Result<(), Fail> {
     let alloc = rt.alloc();
-    for rows in [LIFE, EDGES] {
+    for rows in [LIFE, EDGES, UNCACHED, TURNS, RETAINED] {
         let mut table = Table::new(alloc);
         assert_eq!(rt; first_other(alloc, &mut table, rows)?.as_str(), "");
         assert_eq!(rt; table.len(), 1);

@@ -50,7 +50,7 @@ impl Model for Name {
 }
 
 impl Name {
-    /// This text. It fails for want of memory alone.
+    /// This text.
     pub fn of(alloc: Global, text: &str) -> Result<Name, AllocError>
         ensures { IfOk result (λ n. n ≡ text.now) }
     {
@@ -73,7 +73,7 @@ impl Name {
         self.text.as_str()
     }
 
-    /// An equal name. It fails for want of memory alone.
+    /// An equal name.
     pub fn copy(&self, alloc: Global) -> Result<Name, AllocError>
         ensures { IfOk result (λ n. n ≡ self.now) }
     {
@@ -165,7 +165,7 @@ impl<K, const MOST: usize> Limited<K, MOST> {
         self.text.as_str()
     }
 
-    /// An equal name. It fails for want of memory alone.
+    /// An equal name.
     pub fn copy(&self, alloc: Global) -> Result<Limited<K, MOST>, AllocError>
         ensures { IfOk result (λ n. n ≡ self.now) }
     {

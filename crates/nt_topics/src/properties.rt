@@ -52,7 +52,7 @@ impl Props {
 
     /// The properties that a tree says, or none where it is no object. A member that is null is
     /// passed over, and one that holds, at any depth, a number that isn't whole or doesn't fit 64
-    /// bits. It fails for want of memory alone.
+    /// bits.
     pub fn of(alloc: Global, tree: &Value) -> Result<Option<Props>, AllocError>
         ensures { IfOk result (λ props. props ≡ properties_of (view tree.now)) }
     {
@@ -85,7 +85,7 @@ impl Props {
     }
 
     /// The properties after an update, key by key: null deletes a key, and any other value is put
-    /// there. It fails for want of memory alone.
+    /// there.
     pub fn updated(&self, alloc: Global, update: &Update) -> Result<Props, AllocError>
         ensures updated { IfOk result (λ props. props ≡ updated self.now update.now) }
         ensures keys { IfOk result (λ props. (key : List ℕ)
@@ -102,8 +102,7 @@ impl Props {
         }
     }
 
-    /// Updates the properties as `updated` says. It fails for want of memory alone, and then leaves
-    /// them as they were.
+    /// Updates the properties as `updated` says. For want of memory it leaves them as they were.
     pub fn update(&mut self, alloc: Global, update: &Update) -> Result<(), AllocError>
         ensures ok { OnOk result (self.new ≡ updated self.old update.now) }
         ensures keys { OnOk result ((key : List ℕ)
@@ -152,7 +151,7 @@ impl Props {
         &self.tree
     }
 
-    /// Equal properties. It fails for want of memory alone.
+    /// Equal properties.
     pub fn copy(&self) -> Result<Props, AllocError>
         ensures { IfOk result (λ props. props ≡ self.now) }
     {
@@ -192,8 +191,7 @@ impl Model for Update {
 
 impl Update {
     /// The update that a tree says, or none where it is no object. A member is passed over that
-    /// holds, at any depth, a number that isn't whole or doesn't fit 64 bits. It fails for want of
-    /// memory alone.
+    /// holds, at any depth, a number that isn't whole or doesn't fit 64 bits.
     pub fn of(alloc: Global, tree: &Value) -> Result<Option<Update>, AllocError>
         ensures { IfOk result (λ update. update ≡ update_of (view tree.now)) }
     {
@@ -242,7 +240,7 @@ impl Update {
         &self.tree
     }
 
-    /// An equal update. It fails for want of memory alone.
+    /// An equal update.
     pub fn copy(&self) -> Result<Update, AllocError>
         ensures { IfOk result (λ update. update ≡ self.now) }
     {

@@ -69,7 +69,7 @@ pub fn keep_changes(members: &mut Map<String, Value>)
     members.retain(|_key, value| !holds_float(value));
 }
 
-/// The length of a tree's compact text, in bytes. It fails for want of memory alone.
+/// The length of a tree's compact text, in bytes.
 pub fn text_length(alloc: Global, tree: &Value) -> Result<usize, AllocError>
     ensures { IfOk result
         (λ n. has_float (view tree.now) ≡ false → n ≡ length (compact_text (view tree.now))) }

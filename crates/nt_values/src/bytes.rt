@@ -18,7 +18,7 @@ impl Model for Bytes {
 }
 
 impl Bytes {
-    /// A copy of these bytes. It fails for want of memory alone.
+    /// A copy of these bytes.
     pub fn of(alloc: Global, bytes: &[u8]) -> Result<Bytes, AllocError>
         ensures { IfOk result (λ b. b ≡ bytes.now) }
     {
@@ -41,7 +41,7 @@ impl Bytes {
         self.inner.as_slice()
     }
 
-    /// Equal bytes. It fails for want of memory alone.
+    /// Equal bytes.
     pub fn copy(&self, alloc: Global) -> Result<Bytes, AllocError>
         ensures { IfOk result (λ bytes. bytes ≡ self.now) }
     {

@@ -68,7 +68,7 @@ impl<T> ListOf<T> {
 }
 
 impl<T: Drop> ListOf<T> {
-    /// Adds an item at the end. It fails for want of memory alone, and then leaves the list as it was.
+    /// Adds an item at the end. For want of memory it leaves the list as it was.
     pub fn push(&mut self, item: T) -> Result<(), AllocError>
         ensures ok { OnOk result (self.new ≡ self.old ++ item ∷ []) }
         ensures err { OnErr result (self.new ≡ self.old) }
@@ -79,7 +79,7 @@ impl<T: Drop> ListOf<T> {
 }
 
 impl<T: Copy> ListOf<T> {
-    /// An equal list. It fails for want of memory alone.
+    /// An equal list.
     pub fn copy(&self, alloc: Global) -> Result<ListOf<T>, AllocError>
         ensures { IfOk result (λ list. list ≡ self.now) }
     {
@@ -90,7 +90,7 @@ impl<T: Copy> ListOf<T> {
 }
 
 impl ListOf<Text> {
-    /// An equal list. It fails for want of memory alone.
+    /// An equal list.
     pub fn copy(&self, alloc: Global) -> Result<Texts, AllocError>
         ensures { IfOk result (λ list. list ≡ self.now) }
     {

@@ -18,7 +18,7 @@ impl Model for Text {
 }
 
 impl Text {
-    /// A copy of this text. It fails for want of memory alone.
+    /// A copy of this text.
     pub fn of(alloc: Global, text: &str) -> Result<Text, AllocError>
         ensures { IfOk result (λ t. t ≡ text.now) }
     {
@@ -41,7 +41,7 @@ impl Text {
         self.inner.as_str()
     }
 
-    /// An equal text. It fails for want of memory alone.
+    /// An equal text.
     pub fn copy(&self, alloc: Global) -> Result<Text, AllocError>
         ensures { IfOk result (λ text. text ≡ self.now) }
     {

@@ -80,7 +80,7 @@ impl Value {
         }
     }
 
-    /// An equal value. It fails for want of memory alone.
+    /// An equal value.
     pub fn copy(&self, alloc: Global) -> Result<Value, AllocError>
         ensures { IfOk result (λ value. value ≡ self.now) }
     {

@@ -21,10 +21,14 @@ stop_of Truncated = Wanting
 stop_of NotBuilt = not_built
 
 -- the test for the header
-starts-header : (bytes : List ℕ) (test : Bool) → starts_with nat_eq bytes header ≡ test → (test ≡ true → bytes ≡ header ++ drop 12 bytes) × (take 12 bytes ≡ header → test ≡ true)
+starts-header : (bytes : List ℕ) (test : Bool) → starts_with nat_eq bytes header ≡ test
+    → (test ≡ true → bytes ≡ header ++ drop 12 bytes) × (take 12 bytes ≡ header → test ≡ true)
 starts-header bytes test e =
-    let is = starts_is Decides-eqb bytes header test (sym e) in
-    (is.0, λ same. is.1 (drop 12 bytes) (sym (take-append-drop 12 bytes) ∙ ap (λ (w : List ℕ). w ++ drop 12 bytes) same))
+    let is = starts_is Decides-eqb bytes header test (sym e) in (
+      is.0,
+      λ same. is.1 (drop 12 bytes) (sym (take-append-drop 12 bytes)
+          ∙ ap (λ (w : List ℕ). w ++ drop 12 bytes) same),
+    )
 
 -- the test is passed where the header is
 starts-so : (bytes : List ℕ) → take 12 bytes ≡ header → starts_with nat_eq bytes header ≡ true
@@ -49,19 +53,32 @@ header-read r closed same =
     rw (closed, test, starts-so r.rest same) refl
 
 -- elsewhere it is at fault
-pub header-closed : (kind : LogKind) (r : Reading) → r.begun ≡ false → IsHeaderKind kind r.rest → after_header r ≡ Err (stop_of kind)
+pub header-closed : (kind : LogKind) (r : Reading) → r.begun ≡ false → IsHeaderKind kind r.rest
+    → after_header r ≡ Err (stop_of kind)
 unfolding after_header
-header-closed Truncated r closed short = let test : ltb (length r.rest) 12 ≡ true = lt-ltb _ _ short in rw (closed, test) refl
-header-closed NotBuilt r closed h = let test : ltb (length r.rest) 12 ≡ false = le-ltb _ _ h.0 in rw (closed, test, starts-other r.rest h.1) refl
+header-closed Truncated r closed short = let test : ltb (length r.rest) 12 ≡ true =
+    lt-ltb _ _ short in rw (closed, test) refl
+header-closed NotBuilt r closed h = let test : ltb (length r.rest) 12 ≡ false =
+    le-ltb _ _ h.0 in rw (closed, test, starts-other r.rest h.1) refl
 
 -- the header is there, or at fault
-pub header-or : (bytes : List ℕ) → ((records : List ℕ) × (bytes ≡ header ++ records)) ⊎ ((kind : LogKind) × IsHeaderKind kind bytes)
+pub header-or : (bytes : List ℕ) → ((records : List ℕ) × (bytes ≡ header ++ records))
+    ⊎ ((kind : LogKind) × IsHeaderKind kind bytes)
 header-or bytes = by_length (ltb (length bytes) 12) refl where
-  by_start : (test : Bool) → starts_with nat_eq bytes header ≡ test → 12 ≤ length bytes → ((records : List ℕ) × (bytes ≡ header ++ records)) ⊎ ((kind : LogKind) × IsHeaderKind kind bytes)
+  by_start : (test : Bool) → starts_with nat_eq bytes header ≡ test → 12 ≤ length bytes
+      → ((records : List ℕ) × (bytes ≡ header ++ records)) ⊎ ((kind : LogKind) × IsHeaderKind kind bytes)
   by_start true e long = inl (drop 12 bytes, (starts-header bytes true e).0 refl)
-  by_start false e long = inr (NotBuilt, (long, λ same. let no : false ≡ true = (starts-header bytes false e).1 same in cc))
+  by_start false e long = inr (
+    NotBuilt,
+    (
+      long,
+      λ same. let no : false ≡ true =
+          (starts-header bytes false e).1 same in cc,
+    ),
+  )
 
-  by_length : (test : Bool) → ltb (length bytes) 12 ≡ test → ((records : List ℕ) × (bytes ≡ header ++ records)) ⊎ ((kind : LogKind) × IsHeaderKind kind bytes)
+  by_length : (test : Bool) → ltb (length bytes) 12 ≡ test → ((records : List ℕ) × (bytes ≡ header ++ records))
+      ⊎ ((kind : LogKind) × IsHeaderKind kind bytes)
   by_length true e = inr (Truncated, ltb-true _ _ e)
   by_length false e = by_start (starts_with nat_eq bytes header) refl (ltb-false _ _ e)
 

@@ -13,11 +13,13 @@ made first entry time payload = record { spare = nat_le 128 first; entry = entry
 
 -- what follows the timestamp: the payload
 abbrev from_payload : ℕ → ℕ → ℕ → ℕ → List ℕ → Result (Fields × List ℕ) Stop
-from_payload first entry size time rest = bytes_at Wanting size rest >>= λ payload. Ok (made first entry time payload.0, payload.1)
+from_payload first entry size time rest = bytes_at Wanting size rest >>= λ payload.
+    Ok (made first entry time payload.0, payload.1)
 
 -- what follows the payload size
 abbrev from_time : ℕ → ℕ → ℕ → List ℕ → Result (Fields × List ℕ) Stop
-from_time first entry size rest = number_at Wanting (first / 16 % 8 + 1) rest >>= λ time. from_payload first entry size time.0 time.1
+from_time first entry size rest = number_at Wanting (first / 16 % 8 + 1) rest >>= λ time.
+    from_payload first entry size time.0 time.1
 
 -- what follows the entry id
 abbrev from_size : ℕ → ℕ → List ℕ → Result (Fields × List ℕ) Stop
@@ -36,15 +38,19 @@ record_at-takes [] x e = absurd cc
 record_at-takes (first ∷ bytes) x e =
     let a = bind_ok (number_at Wanting (first % 4 + 1) bytes) (λ entry. from_size first entry.0 entry.1) x e in
     let b = bind_ok (number_at Wanting (first / 4 % 4 + 1) a.0.1) (λ size. from_time first a.0.0 size.0 size.1) x a.2 in
-    let c = bind_ok (number_at Wanting (first / 16 % 8 + 1) b.0.1) (λ time. from_payload first a.0.0 b.0.0 time.0 time.1) x b.2 in
-    let d = bind_ok (bytes_at Wanting b.0.0 c.0.1) (λ payload. Ok (made first a.0.0 c.0.0 payload.0, payload.1)) x c.2 in
+    let c = bind_ok (number_at Wanting (first / 16 % 8 + 1) b.0.1)
+    (λ time. from_payload first a.0.0 b.0.0 time.0 time.1) x b.2 in
+    let d = bind_ok (bytes_at Wanting b.0.0 c.0.1) (λ payload. Ok (made first a.0.0 c.0.0 payload.0, payload.1)) x c.2
+    in
     let entry = number_at-takes Wanting (first % 4 + 1) bytes a.0 a.1 in
     let size = number_at-takes Wanting (first / 4 % 4 + 1) a.0.1 b.0 b.1 in
     let time = number_at-takes Wanting (first / 16 % 8 + 1) b.0.1 c.0 c.1 in
     let payload = bytes_at-takes Wanting b.0.0 c.0.1 d.0 d.1 in
     let parts : bytes ≡ entry.field ++ (size.field ++ (time.field ++ (d.0.0 ++ d.0.1))) =
-    parts_then entry.field entry.parts (parts_then size.field size.parts (parts_then time.field time.parts payload.parts)) in
-    subst (λ (w : Fields × List ℕ). TakesRecord (first ∷ bytes) w.0 w.1) (ok_is (made first a.0.0 c.0.0 d.0.0, d.0.1) x d.2) (record {
+    parts_then entry.field entry.parts (parts_then size.field size.parts
+    (parts_then time.field time.parts payload.parts)) in
+    subst (λ (w : Fields × List ℕ). TakesRecord (first ∷ bytes) w.0 w.1)
+    (ok_is (made first a.0.0 c.0.0 d.0.0, d.0.1) x d.2) (record {
       prefix = first ∷ (entry.field ++ (size.field ++ (time.field ++ d.0.0)));
       is = record {
         first = first;
@@ -61,13 +67,16 @@ record_at-takes (first ∷ bytes) x e =
     })
 
 -- what is spelled so is read, whatever follows
-pub record_at-again : (prefix rest : List ℕ) (fields : Fields) → IsRecord prefix fields → record_at (prefix ++ rest) ≡ Ok (fields, rest)
+pub record_at-again : (prefix rest : List ℕ) (fields : Fields) → IsRecord prefix fields
+    → record_at (prefix ++ rest) ≡ Ok (fields, rest)
 unfolding record_at
 record_at-again prefix rest fields h =
-    let parts : prefix ++ rest ≡ h.first ∷ (h.entry ++ (h.size ++ (h.time ++ (fields.payload ++ rest)))) = ap (λ (w : List ℕ). w ++ rest) h.whole ∙ simp append_assoc in
+    let parts : prefix ++ rest ≡ h.first ∷ (h.entry ++ (h.size ++ (h.time ++ (fields.payload ++ rest)))) =
+    ap (λ (w : List ℕ). w ++ rest) h.whole ∙ simp append_assoc in
     rw (
       parts,
-      number_at-again Wanting (h.first % 4 + 1) h.entry (h.size ++ (h.time ++ (fields.payload ++ rest))) h.first_is.entry_is,
+      number_at-again Wanting (h.first % 4 + 1) h.entry (h.size ++ (h.time ++ (fields.payload ++ rest)))
+          h.first_is.entry_is,
       number_at-again Wanting (h.first / 4 % 4 + 1) h.size (h.time ++ (fields.payload ++ rest)) h.first_is.size_is,
       number_at-again Wanting (h.first / 16 % 8 + 1) h.time (fields.payload ++ rest) h.first_is.time_is,
       bytes_at-again Wanting (number h.size) fields.payload rest (sym h.size_is),
@@ -98,6 +107,9 @@ unfolding record_at
 record_at-stops [] = err-stops Wanting
 record_at-stops (first ∷ bytes) =
     bind-stops Wanting (number_at Wanting (first % 4 + 1) bytes) _ (number_at-stops Wanting (first % 4 + 1) bytes)
-    (λ entry. bind-stops Wanting (number_at Wanting (first / 4 % 4 + 1) entry.1) _ (number_at-stops Wanting (first / 4 % 4 + 1) entry.1)
-    (λ size. bind-stops Wanting (number_at Wanting (first / 16 % 8 + 1) size.1) _ (number_at-stops Wanting (first / 16 % 8 + 1) size.1)
-    (λ time. bind-stops Wanting (bytes_at Wanting size.0 time.1) _ (bytes_at-stops Wanting size.0 time.1) (λ payload. ok-stops Wanting _))))
+    (λ entry. bind-stops Wanting (number_at Wanting (first / 4 % 4 + 1) entry.1) _
+    (number_at-stops Wanting (first / 4 % 4 + 1) entry.1)
+    (λ size. bind-stops Wanting (number_at Wanting (first / 16 % 8 + 1) size.1) _
+    (number_at-stops Wanting (first / 16 % 8 + 1) size.1)
+    (λ time. bind-stops Wanting (bytes_at Wanting size.0 time.1) _ (bytes_at-stops Wanting size.0 time.1)
+    (λ payload. ok-stops Wanting _))))

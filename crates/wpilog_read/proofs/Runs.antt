@@ -51,11 +51,13 @@ settle-more : (r : Reading) (piece : List ℕ) → settle (more (settle r) piece
 settle-more r piece = by_header (after_header r) refl where
   by_header : (h : Result Reading Stop) → after_header r ≡ h → settle (more (settle r) piece) ≡ settle (more r piece)
   by_header (Ok h) e =
-      rw (settle-ok r h e, settle-ok (more r piece) (more h piece) (header-more r h piece e)) (settle-ok (more h piece) (more h piece) (header-more h h piece (header-again r h e).again))
+      rw (settle-ok r h e, settle-ok (more r piece) (more h piece) (header-more r h piece e))
+      (settle-ok (more h piece) (more h piece) (header-more h h piece (header-again r h e).again))
   by_header (Err stop) e = rw (settle-err r stop e) refl
 
 -- where a fault stands, it stays
-wrong-offset : (r : Reading) (piece : List ℕ) (kind : LogKind) → next_of r ≡ Err (Known kind) → (settle (more r piece)).at ≡ (settle r).at
+wrong-offset : (r : Reading) (piece : List ℕ) (kind : LogKind) → next_of r ≡ Err (Known kind)
+    → (settle (more r piece)).at ≡ (settle r).at
 unfolding next_of
 wrong-offset r piece kind wrong = by_header (after_header r) refl where
   by_header : (h : Result Reading Stop) → after_header r ≡ h → (settle (more r piece)).at ≡ (settle r).at
@@ -105,14 +107,22 @@ next-same : (r s : Reading) → settle s ≡ settle r → next_of r ≡ next_of 
 next-same r s e = sym (next-settle r) ∙ ap next_of (sym e) ∙ next-settle s
 
 -- a run goes on by one item
-pub Reads-snoc : (xs : List ItemAt) (r s m : Reading) (x : ItemAt) → Reads r xs s → next_of s ≡ Ok (x, m) → Reads r (xs ++ x ∷ []) m
+pub Reads-snoc : (xs : List ItemAt) (r s m : Reading) (x : ItemAt) → Reads r xs s → next_of s ≡ Ok (x, m)
+    → Reads r (xs ++ x ∷ []) m
 Reads-snoc [] r s m x reads e = (m, next-same r s reads ∙ e, refl)
 Reads-snoc (y ∷ ys) r s m x reads e = (reads.0, reads.1, Reads-snoc ys reads.0 s m x reads.2 e)
 
 -- a run stays one where more bytes come
-pub Reads-more : (xs : List ItemAt) (r s : Reading) (piece : List ℕ) → Reads r xs s → Reads (more r piece) xs (more s piece)
-Reads-more [] r s piece reads = sym (settle-more s piece) ∙ ap (λ (w : Reading). settle (more w piece)) reads ∙ settle-more r piece
-Reads-more (x ∷ xs) r s piece reads = (more reads.0 piece, next-more r piece (x, reads.0) reads.1, Reads-more xs reads.0 s piece reads.2)
+pub Reads-more : (xs : List ItemAt) (r s : Reading) (piece : List ℕ) → Reads r xs s
+    → Reads (more r piece) xs (more s piece)
+Reads-more [] r s piece reads = sym (settle-more s piece) ∙ ap (λ (w : Reading). settle (more w piece)) reads
+    ∙ settle-more r piece
+Reads-more (x ∷ xs) r s piece reads = (
+  more reads.0 piece,
+  next-more r piece (x, reads.0) reads.1,
+  Reads-more xs reads.0
+      s piece reads.2,
+)
 
 -- a run ends as well after the header
 pub Reads-settle : (xs : List ItemAt) (r s : Reading) → Reads r xs s → Reads r xs (settle s)
@@ -124,7 +134,8 @@ abbrev pub IsLast : Reading → Type 0
 IsLast s = (y : ItemAt × Reading) → next_of s ≡ Ok y → ⊥
 
 -- two runs to where no item follows are one
-pub Reads-one : (xs ys : List ItemAt) (r s t : Reading) → Reads r xs s → Reads r ys t → IsLast s → IsLast t → (xs ≡ ys) × (settle s ≡ settle t)
+pub Reads-one : (xs ys : List ItemAt) (r s t : Reading) → Reads r xs s → Reads r ys t → IsLast s → IsLast t
+    → (xs ≡ ys) × (settle s ≡ settle t)
 Reads-one [] [] r s t a b last_s last_t = (refl, a ∙ sym b)
 Reads-one [] (y ∷ ys) r s t a b last_s last_t = absurd (last_s (y, b.0) (sym (next-same r s a) ∙ b.1))
 Reads-one (x ∷ xs) [] r s t a b last_s last_t = absurd (last_t (x, a.0) (sym (next-same r t b) ∙ a.1))
@@ -136,7 +147,8 @@ Reads-one (x ∷ xs) (y ∷ ys) r s t a b last_s last_t =
     (ap (λ (w : ItemAt). w ∷ xs) item ∙ ap (λ (w : List ItemAt). y ∷ w) others.0, others.1)
 
 -- a run begins each run from the same state to where no item follows
-pub Reads-begins : (xs ys : List ItemAt) (r s t : Reading) → Reads r xs s → Reads r ys t → IsLast t → (more : List ItemAt) × (ys ≡ xs ++ more)
+pub Reads-begins : (xs ys : List ItemAt) (r s t : Reading) → Reads r xs s → Reads r ys t → IsLast t
+    → (more : List ItemAt) × (ys ≡ xs ++ more)
 Reads-begins [] ys r s t a b last = (ys, refl)
 Reads-begins (x ∷ xs) [] r s t a b last = absurd (last (x, a.0) (sym (next-same r t b) ∙ a.1))
 Reads-begins (x ∷ xs) (y ∷ ys) r s t a b last =
@@ -147,79 +159,114 @@ Reads-begins (x ∷ xs) (y ∷ ys) r s t a b last =
     (more.0, ap (λ (w : List ItemAt). y ∷ w) more.1 ∙ ap (λ (w : ItemAt). w ∷ (xs ++ more.0)) (sym item))
 
 -- where reading ends no item follows
-pub Ends-last : (next : Result (ItemAt × Reading) Stop) (s : Reading) (fault : Option LogFault) → Ends next s fault → (y : ItemAt × Reading) → next ≡ Ok y → ⊥
+pub Ends-last : (next : Result (ItemAt × Reading) Stop) (s : Reading) (fault : Option LogFault) → Ends next s fault
+    → (y : ItemAt × Reading) → next ≡ Ok y → ⊥
 Ends-last (Ok x) s fault ends y e = ends
 Ends-last (Err stop) s fault ends y e = cc
 
 -- reading ends with one fault or none
-Ends-one : (next : Result (ItemAt × Reading) Stop) (s : Reading) (fault other : Option LogFault) → Ends next s fault → Ends next s other → fault ≡ other
+Ends-one : (next : Result (ItemAt × Reading) Stop) (s : Reading) (fault other : Option LogFault) → Ends next s fault
+    → Ends next s other → fault ≡ other
 Ends-one (Ok x) s fault other a b = absurd a
 Ends-one (Err Wanting) s fault other a b = a ∙ sym b
 Ends-one (Err (Known kind)) s fault other a b = a ∙ sym b
 
 -- the run of a reader begins each reading of what it was fed
-stands-begins : (fault : Option LogFault) (bytes : List ℕ) (items others : List ItemAt) (r : Reading) (other : Option LogFault) → StandsBy fault bytes items r → IsReading bytes others other → (more : List ItemAt) × (others ≡ items ++ more)
-stands-begins None bytes items others r other stands reading = Reads-begins items others (start bytes) r reading.0 stands reading.1 (Ends-last (next_of reading.0) (settle reading.0) other reading.2)
-stands-begins (Some fault) bytes items others r other stands reading = Reads-begins items others (start bytes) stands.0 reading.0 stands.1 reading.1 (Ends-last (next_of reading.0) (settle reading.0) other reading.2)
+stands-begins : (fault : Option LogFault) (bytes : List ℕ) (items others : List ItemAt) (r : Reading)
+    (other : Option LogFault) → StandsBy fault bytes items r → IsReading bytes others other
+    → (more : List ItemAt) × (others ≡ items ++ more)
+stands-begins None bytes items others r other stands reading =
+    Reads-begins items others (start bytes) r reading.0 stands reading.1
+    (Ends-last (next_of reading.0) (settle reading.0) other reading.2)
+stands-begins (Some fault) bytes items others r other stands reading =
+    Reads-begins items others (start bytes) stands.0 reading.0 stands.1 reading.1
+    (Ends-last (next_of reading.0) (settle reading.0) other reading.2)
 
 -- the items that a reader gave begin each reading of what it was fed
-pub Stands-begins : (bytes : List ℕ) (items others : List ItemAt) (r : Reading) (fault : Option LogFault) → Stands bytes items r → IsReading bytes others fault → (more : List ItemAt) × (others ≡ items ++ more)
-Stands-begins bytes items others r fault stands reading = stands-begins r.fault bytes items others r fault stands reading
+pub Stands-begins : (bytes : List ℕ) (items others : List ItemAt) (r : Reading) (fault : Option LogFault)
+    → Stands bytes items r → IsReading bytes others fault → (more : List ItemAt) × (others ≡ items ++ more)
+Stands-begins bytes items others r fault stands reading = stands-begins r.fault bytes items others r fault stands
+    reading
 
 -- bytes have one reading
-pub one-reading : (bytes : List ℕ) (items others : List ItemAt) (fault other : Option LogFault) → IsReading bytes items fault → IsReading bytes others other → (items ≡ others) × (fault ≡ other)
+pub one-reading : (bytes : List ℕ) (items others : List ItemAt) (fault other : Option LogFault)
+    → IsReading bytes items fault → IsReading bytes others other → (items ≡ others) × (fault ≡ other)
 one-reading bytes items others fault other a b =
-    let both = Reads-one items others (start bytes) a.0 b.0 a.1 b.1 (Ends-last (next_of a.0) (settle a.0) fault a.2) (Ends-last (next_of b.0) (settle b.0) other b.2) in
+    let both = Reads-one items others (start bytes) a.0 b.0 a.1 b.1 (Ends-last (next_of a.0) (settle a.0) fault a.2)
+    (Ends-last (next_of b.0) (settle b.0) other b.2) in
     let next : next_of a.0 ≡ next_of b.0 = next-same a.0 b.0 (sym both.1) in
-    let state : Ends (next_of a.0) (settle b.0) fault = subst (λ (w : Reading). Ends (next_of a.0) w fault) both.1 a.2 in
-    let ends : Ends (next_of b.0) (settle b.0) fault = subst (λ (w : Result (ItemAt × Reading) Stop). Ends w (settle b.0) fault) next state in
+    let state : Ends (next_of a.0) (settle b.0) fault = subst (λ (w : Reading). Ends (next_of a.0) w fault) both.1 a.2
+    in
+    let ends : Ends (next_of b.0) (settle b.0) fault = subst (λ (w : Result (ItemAt × Reading) Stop).
+    Ends w (settle b.0) fault) next state in
     (both.0, Ends-one (next_of b.0) (settle b.0) fault other ends b.2)
 
 -- ---- a reader in the midst of a run
 
 -- a reader with no fault stands at the end of a run
-pub Stands-going : (bytes : List ℕ) (items : List ItemAt) (r : Reading) → r.fault ≡ None → Stands bytes items r → Reads (start bytes) items r
+pub Stands-going : (bytes : List ℕ) (items : List ItemAt) (r : Reading) → r.fault ≡ None → Stands bytes items r
+    → Reads (start bytes) items r
 Stands-going bytes items r none stands = subst (λ (fault : Option LogFault). StandsBy fault bytes items r) none stands
 
 -- and the other way round
-pub Stands-from : (bytes : List ℕ) (items : List ItemAt) (r : Reading) → r.fault ≡ None → Reads (start bytes) items r → Stands bytes items r
-Stands-from bytes items r none reads = subst (λ (fault : Option LogFault). StandsBy fault bytes items r) (sym none) reads
+pub Stands-from : (bytes : List ℕ) (items : List ItemAt) (r : Reading) → r.fault ≡ None → Reads (start bytes) items r
+    → Stands bytes items r
+Stands-from bytes items r none reads = subst (λ (fault : Option LogFault). StandsBy fault bytes items r) (sym none)
+    reads
 
 -- a reader stands for more bytes, by its fault
-fed-by : (bytes piece : List ℕ) (items : List ItemAt) (r : Reading) (fault : Option LogFault) → r.fault ≡ fault → StandsBy fault bytes items r → StandsBy fault (bytes ++ piece) items (cond (is_some fault) r (more r piece))
+fed-by : (bytes piece : List ℕ) (items : List ItemAt) (r : Reading) (fault : Option LogFault) → r.fault ≡ fault
+    → StandsBy fault bytes items r → StandsBy fault (bytes ++ piece) items (cond (is_some fault) r (more r piece))
 fed-by bytes piece items r None e stands = Reads-more items (start bytes) r piece stands
 fed-by bytes piece items r (Some fault) e s =
-    let at : (settle (more s.0 piece)).at ≡ (settle s.0).at = wrong-offset s.0 piece fault.kind s.2 in
-    (more s.0 piece, Reads-more items (start bytes) s.0 piece s.1, next-wrong s.0 piece fault.kind s.2, s.3 ∙ ap (λ (n : ℕ). record { at = n; kind = fault.kind }) (sym at))
+    let at : (settle (more s.0 piece)).at ≡ (settle s.0).at = wrong-offset s.0 piece fault.kind s.2 in (
+      more s.0 piece,
+      Reads-more items (start bytes) s.0 piece s.1,
+      next-wrong s.0 piece fault.kind s.2,
+      s.3 ∙ ap (λ (n : ℕ). record {
+        at = n;
+        kind = fault.kind;
+      }) (sym at),
+    )
 
 -- more bytes change no fault
-fed-fault : (r : Reading) (piece : List ℕ) (fault : Option LogFault) → r.fault ≡ fault → (cond (is_some fault) r (more r piece)).fault ≡ fault
+fed-fault : (r : Reading) (piece : List ℕ) (fault : Option LogFault) → r.fault ≡ fault
+    → (cond (is_some fault) r (more r piece)).fault ≡ fault
 fed-fault r piece None e = e
 fed-fault r piece (Some fault) e = e
 
 -- a reader that was fed stands for the bytes with the piece
-pub Stands-fed : (bytes piece : List ℕ) (items : List ItemAt) (r m : Reading) → m ≡ fed r piece → Stands bytes items r → Stands (bytes ++ piece) items m
+pub Stands-fed : (bytes piece : List ℕ) (items : List ItemAt) (r m : Reading) → m ≡ fed r piece → Stands bytes items r
+    → Stands (bytes ++ piece) items m
 Stands-fed bytes piece items r m e stands =
-    rw e (subst (λ (fault : Option LogFault). StandsBy fault (bytes ++ piece) items (fed r piece)) (sym (fed-fault r piece r.fault refl)) (fed-by bytes piece items r r.fault refl stands))
+    rw e (subst (λ (fault : Option LogFault). StandsBy fault (bytes ++ piece) items (fed r piece))
+    (sym (fed-fault r piece r.fault refl)) (fed-by bytes piece items r r.fault refl stands))
 
 -- after an item a reader stands for one item more
-Stands-item : (bytes : List ℕ) (items : List ItemAt) (r m : Reading) (x : ItemAt) → r.fault ≡ None → next_of r ≡ Ok (x, m) → Stands bytes items r → Stands bytes (items ++ x ∷ []) m
+Stands-item : (bytes : List ℕ) (items : List ItemAt) (r m : Reading) (x : ItemAt) → r.fault ≡ None
+    → next_of r ≡ Ok (x, m) → Stands bytes items r → Stands bytes (items ++ x ∷ []) m
 Stands-item bytes items r m x none e stands =
-    Stands-from bytes (items ++ x ∷ []) m (next-fault r (x, m) e ∙ none) (Reads-snoc items (start bytes) r m x (Stands-going bytes items r none stands) e)
+    Stands-from bytes (items ++ x ∷ []) m (next-fault r (x, m) e ∙ none)
+    (Reads-snoc items (start bytes) r m x (Stands-going bytes items r none stands) e)
 
 -- where nothing follows it stands for the same items
-Stands-none : (bytes : List ℕ) (items : List ItemAt) (r m : Reading) → r.fault ≡ None → m ≡ settle r → Stands bytes items r → Stands bytes items m
+Stands-none : (bytes : List ℕ) (items : List ItemAt) (r m : Reading) → r.fault ≡ None → m ≡ settle r
+    → Stands bytes items r → Stands bytes items m
 Stands-none bytes items r m none e stands =
-    rw e (Stands-from bytes items (settle r) (settle-fault r ∙ none) (Reads-settle items (start bytes) r (Stands-going bytes items r none stands)))
+    rw e (Stands-from bytes items (settle r) (settle-fault r ∙ none)
+    (Reads-settle items (start bytes) r (Stands-going bytes items r none stands)))
 
 -- and so with a fault that is known now
-Stands-broken : (bytes : List ℕ) (items : List ItemAt) (r m : Reading) (fault : LogFault) → r.fault ≡ None → next_of r ≡ Err (Known fault.kind) → fault.at ≡ (settle r).at → m ≡ broken fault (settle r) → Stands bytes items r → Stands bytes items m
+Stands-broken : (bytes : List ℕ) (items : List ItemAt) (r m : Reading) (fault : LogFault) → r.fault ≡ None
+    → next_of r ≡ Err (Known fault.kind) → fault.at ≡ (settle r).at → m ≡ broken fault (settle r) → Stands bytes items r
+    → Stands bytes items m
 Stands-broken bytes items r m fault none wrong at e stands =
     rw e (r, Stands-going bytes items r none stands, wrong, ap (λ (n : ℕ). record { at = n; kind = fault.kind }) at)
 
 -- where nothing follows reading may end
 IsEnded-none : (r m : Reading) → r.fault ≡ None → m ≡ settle r → next_of r ≡ Err Wanting → IsEnded m
-IsEnded-none r m none e wanting = rw e (subst (λ (fault : Option LogFault). IsEndedBy fault (settle r)) (sym (settle-fault r ∙ none)) (next-settle r ∙ wanting, settle-settle r))
+IsEnded-none r m none e wanting = rw e (subst (λ (fault : Option LogFault). IsEndedBy fault (settle r))
+    (sym (settle-fault r ∙ none)) (next-settle r ∙ wanting, settle-settle r))
 
 -- and so with a fault
 IsEnded-broken : (r m : Reading) (fault : LogFault) → m ≡ broken fault r → IsEnded m
@@ -234,11 +281,14 @@ pub record Steps (r m : Reading) (result : Result (Option ItemAt) NextFault) : T
   pub fault : IfErr result (λ e. EndsBy e (next_of r) r m)
 
 -- whatever a step answered, the reader stands for the items with those that it gave
-pub Steps-stands : (r m : Reading) (result : Result (Option ItemAt) NextFault) → r.fault ≡ None → Steps r m result → (bytes : List ℕ) (items : List ItemAt) → Stands bytes items r → Stands bytes (items ++ given result) m
+pub Steps-stands : (r m : Reading) (result : Result (Option ItemAt) NextFault) → r.fault ≡ None → Steps r m result
+    → (bytes : List ℕ) (items : List ItemAt) → Stands bytes items r → Stands bytes (items ++ given result) m
 Steps-stands r m (Ok (Some x)) none s bytes items stands = Stands-item bytes items r m x none s.item stands
 Steps-stands r m (Ok None) none s bytes items stands = rw append-nil (Stands-none bytes items r m none s.none.1 stands)
-Steps-stands r m (Err (Log fault)) none s bytes items stands = rw append-nil (Stands-broken bytes items r m fault none s.fault.0 s.fault.1 s.fault.2 stands)
-Steps-stands r m (Err Memory) none s bytes items stands = rw append-nil (Stands-none bytes items r m none s.fault stands)
+Steps-stands r m (Err (Log fault)) none s bytes items stands =
+    rw append-nil (Stands-broken bytes items r m fault none s.fault.0 s.fault.1 s.fault.2 stands)
+Steps-stands r m (Err Memory) none s bytes items stands = rw append-nil
+    (Stands-none bytes items r m none s.fault stands)
 
 -- where a step gave none for another cause than memory reading may end
 pub Steps-ended : (r m : Reading) (result : Result (Option ItemAt) NextFault) → r.fault ≡ None → Steps r m result

@@ -116,7 +116,8 @@ control_of live time (kind ∷ bytes) =
 
 -- a value of this type
 unfoldable pub typed_value : LogType → List ℕ → Result LogValue Stop
-typed_value types.Int64 payload = if length payload == 8 then Ok (Int64 (cast_signed w64 (number payload))) else Err not_built
+typed_value types.Int64 payload = if length payload == 8 then Ok (Int64 (cast_signed w64 (number payload))) else Err
+    not_built
 typed_value types.Other payload = Err not_built
 
 unfoldable pub value_of : Entries → ℕ → ℕ → List ℕ → Result LogItem Stop

@@ -43,7 +43,13 @@ unfoldable pub record_next : Reading → Result (ItemAt × Reading) Stop
 record_next r = do
   fields ← record_at r.rest
   item ← item_of r.live fields.0
-  Ok (record { at = r.at; item = item }, record r { live = live_after r.live item; at = r.at + (length r.rest - length fields.1); rest = fields.1 })
+  Ok (
+    record {
+      at = r.at;
+      item = item;
+    },
+    record r { live = live_after r.live item; at = r.at + (length r.rest - length fields.1); rest = fields.1 },
+  )
 
 -- the next item, and where the reader stands after it
 unfoldable pub next_of : Reading → Result (ItemAt × Reading) Stop
@@ -66,7 +72,8 @@ broken fault r = record r { fault = Some fault }
 
 -- `next` failed so: with a fault that is known now and kept, or for want of memory
 abbrev pub EndsBy : NextFault → Result (ItemAt × Reading) Stop → Reading → Reading → Type 0
-EndsBy (Log fault) next old new = (next ≡ Err (Known fault.kind)) × (fault.at ≡ (settle old).at) × (new ≡ broken fault (settle old))
+EndsBy (Log fault) next old new = (next ≡ Err (Known fault.kind)) × (fault.at ≡ (settle old).at)
+    × (new ≡ broken fault (settle old))
 EndsBy Memory next old new = new ≡ settle old
 
 -- what is wanting where a log ends here
@@ -96,7 +103,8 @@ IsReading bytes items fault = (s : Reading) × Reads (start bytes) items s × En
 -- a reader that was fed these bytes and gave these items stands so, by its fault
 abbrev pub StandsBy : Option LogFault → List ℕ → List ItemAt → Reading → Type 0
 StandsBy None bytes items r = Reads (start bytes) items r
-StandsBy (Some fault) bytes items r = (s : Reading) × Reads (start bytes) items s × (next_of s ≡ Err (Known fault.kind)) × (fault ≡ at_offset (settle s) fault.kind)
+StandsBy (Some fault) bytes items r = (s : Reading) × Reads (start bytes) items s × (next_of s ≡ Err (Known fault.kind))
+    × (fault ≡ at_offset (settle s) fault.kind)
 
 abbrev pub Stands : List ℕ → List ItemAt → Reading → Type 0
 Stands bytes items r = StandsBy r.fault bytes items r

@@ -56,7 +56,7 @@ impl LogValue {
 }
 
 impl LogItem {
-    /// An equal item. It fails for want of memory alone.
+    /// An equal item.
     pub fn copy(&self, alloc: Global) -> Result<LogItem, AllocError>
         ensures { IfOk result (λ item. item ≡ self.now) }
     {

@@ -1,6 +1,6 @@
 -- The open connections that a server keeps, without their outboxes, are those of the history.
 use Rattle.std.proofs.Common.{◌≡◌, ◌<◌, ◌&&◌, ◌||◌, ◌==◌, not, ℕ, suc, Bool, true, false, cond, List, [], ◌∷◌, ◌++◌}
-use Rattle.std.proofs.Common.{Some, map, filter, refl, sym, ◌∙◌, ap, arith}
+use Rattle.std.proofs.Common.{Option, Some, None, map, filter, refl, sym, ◌∙◌, ap, arith}
 use Rattle.std.specs.List.{list_any}
 use Rattle.std.proofs.lemmas.List.{map-append}
 use Rattle.std.proofs.lemmas.Bool.Decides.{nat_tests}
@@ -17,8 +17,9 @@ use Rattle.nt_control.specs.declared.message.ClientMsg.TheVariants.{Publish, Unp
 use Rattle.nt_control.specs.declared.message.ClientMsg.TheVariants.{Unsubscribe}
 use Rattle.nt_rules.specs.history.Now.{Connection, is_open, is_conn, is_open_for, open_ones, subs_of, with_subs, closed}
 use Rattle.nt_rules.specs.history.Answer.{names_of}
-use Rattle.nt_rules.specs.history.State.{is_number, serves, subs_at, given_names, refreshed, told_said, told_sender}
-use Rattle.nt_rules.specs.history.State.{told_changes, with_outbox, with_subs_of, rewanting, drained_from}
+use Rattle.nt_rules.specs.history.State.{is_number, serves, subs_at, given_names, refreshed, message_noted}
+use Rattle.nt_rules.specs.history.State.{sender_noted, changes_noted, turn_noted, with_outbox, with_subs_of, rewanting}
+use Rattle.nt_rules.specs.history.State.{drained_from}
 use Rattle.nt_rules.specs.history.Step.{Plain, plain, plain_of}
 use Rattle.nt_laws.proofs.histories.Facts.{IsNumberedConnections}
 
@@ -107,12 +108,16 @@ pub plain-refreshed : (place : ℕ) (before : List MetaNow) (ts : List Topic) (o
     → map plain (refreshed place before ts opens) ≡ map plain opens
 plain-refreshed place before ts opens = map-plain _ (λ o. refl) opens
 
-pub plain-told : (place : ℕ) (changes : List Change) (opens : List Open)
-    → map plain (map (told_changes place changes) opens) ≡ map plain opens
-plain-told place changes opens = map-plain (told_changes place changes) (λ o. refl) opens
+pub plain-told : (place : ℕ) (ts : List Topic) (changes : List Change) (opens : List Open)
+    → map plain (map (changes_noted place ts changes) opens) ≡ map plain opens
+plain-told place ts changes opens = map-plain (changes_noted place ts changes) (λ o. refl) opens
+
+plain-turn : (place : ℕ) (id : Option ℕ) (o : Open) → plain (turn_noted place id o) ≡ plain o
+plain-turn place None o = refl
+plain-turn place (Some id) o = refl
 
 plain-sender : (place : ℕ) (ts : List Topic) (m : Msg) (changes : List Change) (o : Open)
-    → plain (told_sender place ts m changes o) ≡ plain o
+    → plain (sender_noted place ts m changes o) ≡ plain o
 plain-sender place ts (Control (Publish name uid typ props)) changes o = refl
 plain-sender place ts (Control (Unpublish uid)) changes o = refl
 plain-sender place ts (Control (SetProps name update)) changes o = refl
@@ -120,14 +125,17 @@ plain-sender place ts (Control (Subscribe uid sub)) changes o = refl
 plain-sender place ts (Control (Unsubscribe uid)) changes o = refl
 plain-sender place ts (Put v) changes o = refl
 
-pub plain-said : (place : ℕ) (ts : List Topic) (conn : ℕ) (m : Msg) (changes : List Change)
+-- of a message, and of the turn that it makes
+pub plain-said : (place : ℕ) (ts : List Topic) (id : Option ℕ) (conn : ℕ) (m : Msg) (changes : List Change)
     (opens : List Open)
-    → map plain (map (told_said place ts conn m changes) opens) ≡ map plain opens
-plain-said place ts conn m changes opens =
-    map-plain (told_said place ts conn m changes) (λ o. by o (is_number conn o)) opens
+    → map plain (map (λ o. message_noted place ts conn m changes (turn_noted place id o)) opens)
+    ≡ map plain opens
+plain-said place ts id conn m changes opens =
+    map-plain (λ o. message_noted place ts conn m changes (turn_noted place id o))
+    (λ o. by (turn_noted place id o) (is_number conn (turn_noted place id o)) ∙ plain-turn place id o) opens
   where
     by : (o : Open) (b : Bool)
-        → plain (cond b (told_sender place ts m changes o) (told_changes place changes o)) ≡ plain o
+        → plain (cond b (sender_noted place ts m changes o) (changes_noted place ts changes o)) ≡ plain o
     by o true = plain-sender place ts m changes o
     by o false = refl
 

@@ -7,13 +7,12 @@ use Rattle.nt_topics.specs.declared.version.Version.{Version}
 use Rattle.nt_control.specs.declared.message.ClientMsg.TheVariants.{Publish, Unpublish, SetProps, Subscribe}
 use Rattle.nt_control.specs.declared.message.ClientMsg.TheVariants.{Unsubscribe}
 use Rattle.nt_subs.specs.Subscriptions.{Subs, with_sub, without_sub}
-use Rattle.nt_values.specs.declared.value.Value.{Value}
 use Rattle.nt_rules.specs.Limits.{last_connection, last_id}
 use Rattle.nt_rules.specs.declared.topic.Saved.{Saved}
 use Rattle.nt_rules.specs.declared.topic.Topic.{Topic}
 use Rattle.nt_rules.specs.declared.topic.Cause.{Cause}
 use Rattle.nt_rules.specs.declared.topic.Cause.TheVariants.{NoConn, ConnsSpent, Older}
-use Rattle.nt_rules.specs.topics.Topics.{restored_topic, dropped}
+use Rattle.nt_rules.specs.topics.Topics.{dropped}
 use Rattle.nt_rules.specs.topics.Changes.{drop_changes}
 use Rattle.nt_rules.specs.declared.meta.MetaNow.{MetaNow}
 use Rattle.nt_rules.specs.outbox.Calls.{nothing_owed}
@@ -26,7 +25,7 @@ use Rattle.nt_rules.specs.declared.act.StepOut.TheVariants as out
 use Rattle.nt_rules.specs.declared.act.Entry.{Entry}
 use Rattle.nt_rules.specs.history.State.{Open}
 use Rattle.nt_rules.specs.declared.taken.Taken.{Taken}
-use Rattle.nt_rules.specs.history.Lives.{Life, topics, seen, closed_for, restored, restored_life}
+use Rattle.nt_rules.specs.history.Lives.{Life, topics, closed_for, restored, restored_life}
 use Rattle.nt_rules.specs.declared.start.Start.{Start}
 use Rattle.nt_rules.specs.history.Now.{Now, beginning, Connection, with_subs, now_of, after, after_said, is_open_for}
 use Rattle.nt_rules.specs.history.Now.{open_ones, opened, closed, subs_of, said_cause, cause_of, is_traced, lives_after}
@@ -35,14 +34,16 @@ use Rattle.nt_rules.specs.history.Answer.{answer, entry, Legal, moment_of, said_
 use Rattle.nt_rules.specs.history.Marks.{held_place}
 use Rattle.nt_rules.specs.history.State.{State, serves, subs_at, given_names, cause_at, topics_said, next_said}
 use Rattle.nt_rules.specs.history.State.{changes_said, taken_after, if_taken, said_to, opened_by, closed_by, refreshed}
-use Rattle.nt_rules.specs.history.State.{metas_kept, told_said, with_subs_of, rewanting, is_number, drained_from}
-use Rattle.nt_rules.specs.history.State.{may_grant, acted, reply}
+use Rattle.nt_rules.specs.history.State.{open_metas, message_noted, with_subs_of, rewanting, is_number, drained_from}
+use Rattle.nt_rules.specs.history.State.{may_grant, acted, reply, turned_id, turn_noted}
+use Rattle.nt_rules.specs.history.Saved.{HasDistinctNames}
 use Rattle.nt_rules.specs.history.Step.{Core, Plain, core, core_of, plain, plain_of}
 use Rattle.nt_laws.proofs.histories.Histories.{traced_now, closed_now}
 use Rattle.nt_laws.proofs.histories.Facts.{length-restored, IsNumberedLives, IsNumberedConnections, lives-numbered}
 use Rattle.nt_laws.proofs.histories.Facts.{lives-few, connections-numbered}
 use Rattle.nt_laws.proofs.topics.TopicLaws.{topics-said-are, next-said-is, topics-older, topics-closed}
-use Rattle.nt_laws.proofs.topics.TakenLaws.{taken-said-are, taken-older-at, taken-closed-are}
+use Rattle.nt_laws.proofs.topics.OneName.{HasOneName, lives-named}
+use Rattle.nt_laws.proofs.topics.TakenLaws.{unplaced-restored, taken-said-are, taken-older-at, taken-closed-are}
 use Rattle.nt_laws.proofs.histories.ConnectionLaws.{serves-is, subs-are, names-are, plain-refreshed, plain-told}
 use Rattle.nt_laws.proofs.histories.ConnectionLaws.{plain-said, plain-rewanting, plain-drained, plain-closed}
 use Rattle.nt_laws.proofs.histories.ConnectionLaws.{plain-opened, plain-with-subs}
@@ -55,37 +56,28 @@ pub record IsKeptOf (s : State) (n : Now) : Type 0 where
 -- how a present is numbered
 pub record IsOrderly (n : Now) : Type 0 where
   pub lives_numbered : IsNumberedLives 1 n.lives
+  pub lives_named : HasOneName n.lives
   pub lives_few : length n.lives ≤ last_id
   pub connections_numbered : IsNumberedConnections 1 n.connections
 
-pub orderly : (start : Start) (past : List Entry) → length start.saved ≤ last_id → Legal start past
+pub orderly : (start : Start) (past : List Entry) → length start.saved ≤ last_id → HasDistinctNames start.saved
+    → Legal start past
     → IsOrderly (now_of start past)
-orderly start past few legal = record {
+orderly start past few distinct legal = record {
   lives_numbered = lives-numbered start past;
+  lives_named = lives-named start past distinct;
   lives_few = lives-few start past few;
   connections_numbered = connections-numbered start past legal;
 }
 
 -- ---- the beginning
 
--- a restored life is seen as the restored topic
-pub seen-restored : (id : ℕ) (s : Saved) → seen (restored_life id s) ≡ Some (restored_topic id s)
-seen-restored id s = by s.value
-  where
-    by : (v : Option Value) → seen (restored_life id (record s { value = v }))
-        ≡ Some (restored_topic id (record s { value = v }))
-    by None = refl
-    by (Some v) = refl
-
 -- a restored value was taken at no entry
 taken-restored : (id : ℕ) (saved : List Saved) → filter_map held_place (restored id saved) ≡ []
 taken-restored id [] = refl
 taken-restored id (s ∷ saved) =
-    ap (λ ts. cons_option (held_place (restored_life id s)) ts) (taken-restored (id + 1) saved) ∙ by s.value
-  where
-    by : (v : Option Value) → cons_option (held_place (restored_life id (record s { value = v }))) [] ≡ []
-    by None = refl
-    by (Some v) = refl
+    ap (λ ts. cons_option (held_place (restored_life id s)) ts) (taken-restored (id + 1) saved)
+    ∙ ap (λ o. cons_option o []) (unplaced-restored id s)
 
 -- what is kept of no entries
 pub core-begun : (start : Start) → core_of (beginning start)
@@ -161,7 +153,8 @@ core_said conn m c =
     record c {
       topics = topics_said c.topics c.next conn m;
       next = next_said c.topics c.next m;
-      taken = taken_after (c.place + 1) (changes_said c.topics c.next conn m) c.taken;
+      taken = taken_after (c.place + 1) (topics_said c.topics c.next conn m)
+          (changes_said c.topics c.next conn m) c.taken;
     }
 
 abbrev if_said : Option Cause → Core → Core → Core
@@ -235,7 +228,7 @@ core-after-said n worker conn m tidy = by (is_open_for n.connections worker conn
         (topics-said-are (n.place + 1) n.lives (subs_of n.connections conn) conn m e)
         (next-said-is (n.place + 1) n.lives conn m)
         (taken-said-are (n.place + 1) n.lives (subs_of n.connections conn) conn m
-        tidy.lives_numbered tidy.lives_few (omega arith) e)
+        tidy.lives_numbered tidy.lives_named tidy.lives_few (omega arith) e)
 
     there : (m : Msg)
         → (said_cause (topics n.lives) (length n.lives + 1) (subs_of n.connections conn) conn m ≡ None
@@ -272,7 +265,7 @@ abbrev core_dropped : ℕ → Core → Core
 core_dropped conn c =
     record c {
       topics = dropped c.topics conn;
-      taken = taken_after (c.place + 1) (drop_changes c.topics conn) c.taken;
+      taken = taken_after (c.place + 1) (dropped c.topics conn) (drop_changes c.topics conn) c.taken;
     }
 
 core-closed : (n : Now) (conn : ℕ) → IsOrderly n → core_of (closed_now n conn) ≡ core_dropped conn (core_of n)
@@ -283,7 +276,7 @@ core-closed n conn tidy =
     (topics-closed (n.place + 1) conn n.lives)
     (ap (λ k. k + 1) (length-map n.lives (closed_for (n.place + 1) conn)))
     (let few = tidy.lives_few in
-    taken-closed-are (n.place + 1) conn 1 n.lives tidy.lives_numbered (omega arith))
+    taken-closed-are (n.place + 1) conn 1 (dropped (topics n.lives) conn) n.lives tidy.lives_numbered (omega arith))
 
 -- the present after the entry of an open
 abbrev after_open : Now → ℕ → ℕ → List ℕ → Version → Bool → ℕ → List ℕ → Now
@@ -360,17 +353,20 @@ plain-said_to s n conn m tidy kept = by m
     place = s.place + 1
 
     before : List MetaNow
-    before = metas_kept s.opens s.topics
+    before = open_metas s.opens s.topics
+
+    turned : Msg → Option ℕ
+    turned m = turned_id s.topics (topics_said s.topics s.next conn m) m
 
     told : Msg → List Open
     told m =
-        map (told_said place (topics_said s.topics s.next conn m) conn m
-        (changes_said s.topics s.next conn m))
+        map (λ o. message_noted place (topics_said s.topics s.next conn m) conn m
+        (changes_said s.topics s.next conn m) (turn_noted place (turned m) o))
         s.opens
 
     told-is : (m : Msg) → map plain (told m) ≡ plain_now n
     told-is m =
-        plain-said place (topics_said s.topics s.next conn m) conn m
+        plain-said place (topics_said s.topics s.next conn m) (turned m) conn m
         (changes_said s.topics s.next conn m) s.opens
         ∙ kept.opens_are
 
@@ -382,7 +378,7 @@ plain-said_to s n conn m tidy kept = by m
     resubscribed f = with_subs_of conn (f (subs_at s.opens conn)) s.opens
 
     after : (Subs → Subs) → List MetaNow
-    after f = metas_kept (resubscribed f) s.topics
+    after f = open_metas (resubscribed f) s.topics
 
     rewanted : (Subs → Subs) → List Open
     rewanted f = rewanting place s.taken s.topics (after f) conn (subs_at s.opens conn) (resubscribed f)
@@ -438,7 +434,7 @@ plain-acted s n worker now (act.Open name version) tidy kept = by (leb last_conn
         ≡ plain_now (next b)
     by true = kept.opens_are
     by false =
-        plain-refreshed (s.place + 1) (metas_kept s.opens s.topics) s.topics (s.opens ++ new ∷ [])
+        plain-refreshed (s.place + 1) (open_metas s.opens s.topics) s.topics (s.opens ++ new ∷ [])
         ∙ plain-opened new (opened worker (s.opened + 1) given) s.opens n.connections kept.opens_are refl refl
 plain-acted s n worker now (act.Said conn m) tidy kept =
     opens_of (cause_at s worker conn m)
@@ -463,8 +459,9 @@ plain-acted s n worker now (act.Close conn) tidy kept =
         → map plain (cond b (closed_by s (s.place + 1) conn) s).opens
         ≡ plain_now (cond d (closed_now n conn) n)
     by true true e =
-        plain-refreshed (s.place + 1) (metas_kept s.opens s.topics) (dropped s.topics conn) _
-        ∙ plain-told (s.place + 1) (drop_changes s.topics conn) (filter (λ o. not (is_number conn o)) s.opens)
+        plain-refreshed (s.place + 1) (open_metas s.opens s.topics) (dropped s.topics conn) _
+        ∙ plain-told (s.place + 1) (dropped s.topics conn) (drop_changes s.topics conn)
+        (filter (λ o. not (is_number conn o)) s.opens)
         ∙ plain-closed (n.place + 1) conn s.opens n.connections kept.opens_are
     by false false e = kept.opens_are
     by true false e = absurd (cc)

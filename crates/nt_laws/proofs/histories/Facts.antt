@@ -1,25 +1,28 @@
 -- Facts of every history: the place, how lives and connections are numbered, how many lives there are, and
 -- where they begin, change and end.
-use Rattle.std.proofs.Common.{◌≡◌, ◌≤◌, ◌<◌, ◌+◌, ◌&&◌, ℕ, suc, Bool, true, false, cond, List, [], ◌∷◌, ◌++◌, Option}
-use Rattle.std.proofs.Common.{Some, None, map, length, length-append, refl, ◌∙◌, ap, subst, arith}
-use Rattle.std.specs.List.{find}
+use Rattle.std.proofs.Common.{◌≡◌, ◌≤◌, ◌<◌, ◌+◌, ◌&&◌, ℕ, suc, Bool, true, false, cond, leb, List, [], ◌∷◌, ◌++◌}
+use Rattle.std.proofs.Common.{Option, Some, None, map, length, length-append, refl, ◌∙◌, ap, subst, arith}
+use Rattle.std.specs.List.{find, list_all}
 use Rattle.std.proofs.lemmas.List.{length-map}
 use Rattle.serde_json.specs.Data.{Data}
+use Rattle.nt_topics.specs.Properties.{is_cached}
 use Rattle.nt_values.specs.declared.value.Value.{Value}
 use Rattle.nt_subs.specs.Subscriptions.{Subs}
 use Rattle.nt_rules.specs.Limits.{last_id}
 use Rattle.nt_rules.specs.declared.topic.Pub.{Pub}
 use Rattle.nt_rules.specs.declared.topic.Saved.{Saved}
-use Rattle.nt_rules.specs.topics.Puts.{Put}
+use Rattle.nt_rules.specs.topics.Puts.{Put, taken}
 use Rattle.nt_rules.specs.topics.Topics.{lives_on, has_conn}
 use Rattle.nt_rules.specs.declared.act.Entry.{Entry}
 use Rattle.nt_rules.specs.history.Lives.{Life, Publishing, Setting, topic_of, is_living, at_first, or_ended}
 use Rattle.nt_rules.specs.history.Lives.{with_publishing, born, without_publisher, without_conn, with_setting}
-use Rattle.nt_rules.specs.history.Lives.{with_a_put, closed_for, restored, restored_put}
+use Rattle.nt_rules.specs.history.Lives.{with_a_put, closed_for, restored, restored_put, turned_at, taken_since_turn}
+use Rattle.nt_rules.specs.history.Lives.{taken_of}
 use Rattle.nt_rules.specs.history.Answer.{Legal}
 use Rattle.nt_rules.specs.declared.start.Start.{Start}
 use Rattle.nt_rules.specs.history.Now.{Connection, opened, is_conn, now_of}
 use Rattle.nt_laws.proofs.histories.Histories.{lives-keep, connections-keep}
+use Rattle.nt_laws.proofs.topics.Turns.{with_change, setting-by, setting-id}
 
 -- ---- the place
 
@@ -92,7 +95,7 @@ lives-numbered start =
           (λ l. id-or_ended (k + 1) (without_publisher conn uid l)) 1 lives h;
       updated =
           λ k conn name u lives h. numbered-at _ _
-          (λ l. id-or_ended (k + 1) (with_setting (k + 1) conn u l)) 1 lives h;
+          (λ l. id-or_ended (k + 1) (with_setting (k + 1) conn u l) ∙ setting-id (k + 1) conn u l) 1 lives h;
       put = λ k conn uid time value lives h. numbered-at _
           (with_a_put (record { place = k + 1; time = time; value = value })) (λ l. refl) 1 lives h;
       dropped =
@@ -181,13 +184,99 @@ over-more : (m n : ℕ) (o : Option ℕ) → m ≤ n → IsOverBy m o → IsOver
 over-more m n None h a = tt
 over-more m n (Some place) h a = let last = a.1 in (a.0, omega arith)
 
+-- all are after this place, from the place 1 on: a restored put stands at 0, where its life turned
+abbrev pub AllAfter : ℕ → List Put → Type 0
+AllAfter n [] = Unit {0}
+AllAfter n (p ∷ ps) = (1 ≤ n → n < p.place) × AllAfter n ps
+
 -- the places of a life, none of which is past n
 pub record IsPlaced (n : ℕ) (l : Life) : Type 0 where
   pub puts_before : AllBefore (n + 1) l.puts
   pub puts_fall : Falling l.puts
+  pub puts_after : AllAfter l.turn l.puts
+  pub turn_by : l.turn ≤ n
+  pub taken_earlier : AllBefore l.turn l.taken_before
+  pub taken_fall : Falling l.taken_before
   pub publishings_rise : IsRising (λ p. p.place) 1 n l.publishings
   pub settings_rise : IsRising (λ s. s.place) 1 n l.settings
   pub is_over_by : IsOverBy n l.over
+
+-- ---- places of puts that were taken
+
+pub before-taken : (n : ℕ) (ps : List Put) → AllBefore n ps → AllBefore n (taken ps)
+before-taken n [] a = tt
+before-taken n (p ∷ ps) a = by (list_all (λ q. leb q.time p.time) ps) (before-taken n ps a.1)
+  where
+    by : (b : Bool) → AllBefore n (taken ps) → AllBefore n (cond b (p ∷ taken ps) (taken ps))
+    by true t = (a.0, t)
+    by false t = t
+
+pub falling-taken : (ps : List Put) → Falling ps → Falling (taken ps)
+falling-taken [] f = tt
+falling-taken (p ∷ ps) f = by (list_all (λ q. leb q.time p.time) ps) (falling-taken ps f.1)
+  where
+    by : (b : Bool) → Falling (taken ps) → Falling (cond b (p ∷ taken ps) (taken ps))
+    by true t = (before-taken p.place ps f.0, t)
+    by false t = t
+
+-- of those since the turn
+pub before-since : (n : ℕ) (l : Life) → AllBefore n l.puts → AllBefore n (taken_since_turn l)
+before-since n l a = by (is_cached l.props)
+  where
+    by : (b : Bool) → AllBefore n (cond b (taken l.puts) l.puts)
+    by true = before-taken n l.puts a
+    by false = a
+
+pub falling-since : (l : Life) → Falling l.puts → Falling (taken_since_turn l)
+falling-since l f = by (is_cached l.props)
+  where
+    by : (b : Bool) → Falling (cond b (taken l.puts) l.puts)
+    by true = falling-taken l.puts f
+    by false = f
+
+after-taken : (n : ℕ) (ps : List Put) → AllAfter n ps → AllAfter n (taken ps)
+after-taken n [] a = tt
+after-taken n (p ∷ ps) a = by (list_all (λ q. leb q.time p.time) ps) (after-taken n ps a.1)
+  where
+    by : (b : Bool) → AllAfter n (taken ps) → AllAfter n (cond b (p ∷ taken ps) (taken ps))
+    by true t = (a.0, t)
+    by false t = t
+
+pub after-since : (n : ℕ) (l : Life) → AllAfter n l.puts → AllAfter n (taken_since_turn l)
+after-since n l a = by (is_cached l.props)
+  where
+    by : (b : Bool) → AllAfter n (cond b (taken l.puts) l.puts)
+    by true = after-taken n l.puts a
+    by false = a
+
+-- of all: those before the turn come after those since it
+before-append : (n : ℕ) (ps qs : List Put) → AllBefore n ps → AllBefore n qs → AllBefore n (ps ++ qs)
+before-append n [] qs a b = b
+before-append n (p ∷ ps) qs a b = (a.0, before-append n ps qs a.1 b)
+
+falling-append : (turn : ℕ) (ps qs : List Put) → Falling ps → AllAfter turn ps → Falling qs → AllBefore turn qs
+    → Falling (ps ++ qs)
+falling-append turn [] qs f a g b = g
+falling-append turn (p ∷ ps) qs f a g b =
+    (before-append p.place ps qs f.0 (earlier qs b), falling-append turn ps qs f.1 a.1 g b)
+  where
+    earlier : (qs : List Put) → AllBefore turn qs → AllBefore p.place qs
+    earlier [] b = tt
+    earlier (q ∷ qs) b =
+        let less : q.place < turn = b.0 in
+        let low : turn < p.place = a.0 (omega arith) in
+        (omega arith, earlier qs b.1)
+
+pub before-all : (n : ℕ) (l : Life) → IsPlaced n l → AllBefore (n + 1) (taken_of l)
+before-all n l h =
+    let by = h.turn_by in
+    before-append (n + 1) (taken_since_turn l) l.taken_before (before-since (n + 1) l h.puts_before)
+    (before-more l.turn (n + 1) l.taken_before (omega arith) h.taken_earlier)
+
+pub falling-all : (n : ℕ) (l : Life) → IsPlaced n l → Falling (taken_of l)
+falling-all n l h =
+    falling-append l.turn (taken_since_turn l) l.taken_before (falling-since l h.puts_fall)
+    (after-since l.turn l h.puts_after) h.taken_fall h.taken_earlier
 
 abbrev pub ArePlaced : ℕ → List Life → Type 0
 ArePlaced n [] = Unit {0}
@@ -197,6 +286,10 @@ placed-more : (n : ℕ) (l : Life) → IsPlaced n l → IsPlaced (n + 1) l
 placed-more n l h = record {
   puts_before = before-more (n + 1) (n + 1 + 1) l.puts (omega arith) h.puts_before;
   puts_fall = h.puts_fall;
+  puts_after = h.puts_after;
+  turn_by = let by = h.turn_by in omega arith;
+  taken_earlier = h.taken_earlier;
+  taken_fall = h.taken_fall;
   publishings_rise =
       rising-more (λ (p : Publishing). p.place) 1 n (n + 1) l.publishings (omega arith) h.publishings_rise;
   settings_rise = rising-more (λ (s : Setting). s.place) 1 n (n + 1) l.settings (omega arith) h.settings_rise;
@@ -211,6 +304,10 @@ placed-ended n l h = by (lives_on (topic_of l))
     by false = record {
       puts_before = h.puts_before;
       puts_fall = h.puts_fall;
+      puts_after = h.puts_after;
+      turn_by = h.turn_by;
+      taken_earlier = h.taken_earlier;
+      taken_fall = h.taken_fall;
       publishings_rise = h.publishings_rise;
       settings_rise = h.settings_rise;
       is_over_by = (omega arith, omega arith);
@@ -222,6 +319,10 @@ placed-joined n p l h =
     record {
       puts_before = m.puts_before;
       puts_fall = m.puts_fall;
+      puts_after = m.puts_after;
+      turn_by = m.turn_by;
+      taken_earlier = m.taken_earlier;
+      taken_fall = m.taken_fall;
       publishings_rise =
           rising-push (λ (p : Publishing). p.place) 1 n l.publishings
           (record { place = n + 1; conn = p.conn; uid = p.uid }) (omega arith) refl h.publishings_rise;
@@ -229,18 +330,44 @@ placed-joined n p l h =
       is_over_by = m.is_over_by;
     }
 
+-- a life that turns after n
+placed-turned : (n : ℕ) (l : Life) → IsPlaced n l → IsPlaced (n + 1) (turned_at (n + 1) l)
+placed-turned n l h =
+    let m = placed-more n l h in
+    record {
+      puts_before = tt;
+      puts_fall = tt;
+      puts_after = tt;
+      turn_by = omega arith;
+      taken_earlier = before-all n l h;
+      taken_fall = falling-all n l h;
+      publishings_rise = m.publishings_rise;
+      settings_rise = m.settings_rise;
+      is_over_by = m.is_over_by;
+    }
+
 placed-set : (n conn : ℕ) (u : Data) (l : Life) → IsPlaced n l
     → IsPlaced (n + 1) (with_setting (n + 1) conn u l)
 placed-set n conn u l h =
-    let m = placed-more n l h in
-    record {
-      puts_before = m.puts_before;
-      puts_fall = m.puts_fall;
-      publishings_rise = m.publishings_rise;
-      settings_rise =
-          rising-push (λ (s : Setting). s.place) 1 n l.settings
-          (record { place = n + 1; conn = conn; update = u }) (omega arith) refl h.settings_rise;
-      is_over_by = m.is_over_by;
+    setting-by (n + 1) conn u l (IsPlaced (n + 1)) (changed (turned_at (n + 1) l) (placed-turned n l h))
+    (changed l (placed-more n l h))
+  where
+    settings : IsRising (λ s. s.place) 1 (n + 1) (l.settings ++ record { place = n + 1; conn = conn; update = u } ∷ [])
+    settings =
+        rising-push (λ (s : Setting). s.place) 1 n l.settings
+        (record { place = n + 1; conn = conn; update = u }) (omega arith) refl h.settings_rise
+
+    changed : (m : Life) → IsPlaced (n + 1) m → IsPlaced (n + 1) (with_change (n + 1) conn u l m)
+    changed m h = record {
+      puts_before = h.puts_before;
+      puts_fall = h.puts_fall;
+      puts_after = h.puts_after;
+      turn_by = h.turn_by;
+      taken_earlier = h.taken_earlier;
+      taken_fall = h.taken_fall;
+      publishings_rise = h.publishings_rise;
+      settings_rise = settings;
+      is_over_by = h.is_over_by;
     }
 
 placed-put : (n time : ℕ) (value : Value) (l : Life) → IsPlaced n l
@@ -250,6 +377,10 @@ placed-put n time value l h =
     record {
       puts_before = (omega arith, m.puts_before);
       puts_fall = (h.puts_before, h.puts_fall);
+      puts_after = (λ real. let by = h.turn_by in omega arith, h.puts_after);
+      turn_by = m.turn_by;
+      taken_earlier = m.taken_earlier;
+      taken_fall = m.taken_fall;
       publishings_rise = m.publishings_rise;
       settings_rise = m.settings_rise;
       is_over_by = m.is_over_by;
@@ -260,6 +391,10 @@ placed-pubs : (n : ℕ) (pubs : List Pub) (l : Life) → IsPlaced n l → IsPlac
 placed-pubs n pubs l h = record {
   puts_before = h.puts_before;
   puts_fall = h.puts_fall;
+  puts_after = h.puts_after;
+  turn_by = h.turn_by;
+  taken_earlier = h.taken_earlier;
+  taken_fall = h.taken_fall;
   publishings_rise = h.publishings_rise;
   settings_rise = h.settings_rise;
   is_over_by = h.is_over_by;
@@ -306,6 +441,10 @@ placed-born : (n id : ℕ) (name typ : List ℕ) (props : Data) (p : Pub)
 placed-born n id name typ props p = record {
   puts_before = tt;
   puts_fall = tt;
+  puts_after = tt;
+  turn_by = omega arith;
+  taken_earlier = tt;
+  taken_fall = tt;
   publishings_rise = (omega arith, omega arith, tt);
   settings_rise = tt;
   is_over_by = tt;
@@ -317,6 +456,10 @@ placed-restored id (s ∷ saved) = (
   record {
     puts_before = before s.value;
     puts_fall = fall s.value;
+    puts_after = after s.value;
+    turn_by = omega arith;
+    taken_earlier = tt;
+    taken_fall = tt;
     publishings_rise = tt;
     settings_rise = tt;
     is_over_by = tt;
@@ -331,6 +474,10 @@ placed-restored id (s ∷ saved) = (
     fall : (v : Option Value) → Falling (restored_put v)
     fall None = tt
     fall (Some v) = (tt, tt)
+
+    after : (v : Option Value) → AllAfter 0 (restored_put v)
+    after None = tt
+    after (Some v) = (λ real. absurd (omega arith), tt)
 
 -- in every history puts stand at falling places, publishes and changes of properties at rising ones from 1
 -- on, and none is past the present

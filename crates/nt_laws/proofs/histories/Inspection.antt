@@ -17,13 +17,13 @@ use Rattle.nt_rules.specs.history.Metas.{all_lives}
 use Rattle.nt_rules.specs.declared.start.Start.{Start}
 use Rattle.nt_rules.specs.history.Now.{Now, Connection, is_open, is_there, is_open_for, open_ones, now_of, cause_of}
 use Rattle.nt_rules.specs.history.Owed as history
-use Rattle.nt_rules.specs.history.Owed.{account, keys_owed, lives_weight, owed, queued}
+use Rattle.nt_rules.specs.history.Owed.{account, keys_owed, lives_weight, owed, queued, wish_for, wish_on, since_for}
 use Rattle.nt_rules.specs.history.Answer.{entry, opened_deed, opened_conn, permit_deed}
 use Rattle.nt_rules.specs.history.Changes.{deed_changes, added_changes}
 use Rattle.nt_rules.specs.history.State.{State, is_number, outbox_at, changes_by, changes_said, if_counted}
 use Rattle.nt_rules.specs.history.Step.{Plain, ServerState, Represents, Owes, AllOwe, plain, plain_of}
 use Rattle.nt_laws.proofs.metas.AllLives.{IsNumbered, IsFitStart, saved-fit}
-use Rattle.nt_laws.proofs.outboxes.OutboxKeys.{wish_of, since_of, owes-behind, owes-pending, owes-queued}
+use Rattle.nt_laws.proofs.outboxes.OutboxKeys.{owes-behind, owes-pending, owes-queued}
 use Rattle.nt_laws.proofs.histories.CoreLaws.{IsKeptOf, open-is, cause-is, topics-are, next-is}
 use Rattle.nt_laws.proofs.metas.MetaOrder.{is-numbered}
 use Rattle.nt_laws.proofs.histories.StepLaw.{kept-of}
@@ -102,7 +102,7 @@ module _ (server : ServerState) (start : Start) (past : List Entry) (conn : ℕ)
       by false none =
           ap (λ b. length (keys_of b)) (empty none)
           ∙ ap (λ t. length (cond (t && is_none (account start past conn).fell)
-          (keys_owed (account start past conn) conn (wish_of start past conn) (since_of start past conn)
+          (keys_owed (account start past conn) conn (wish_on (wish_for start past conn)) (since_for start past conn)
           (all_lives start past)) [])) (sym none)
 
   -- what is queued for it weighs
@@ -115,7 +115,7 @@ module _ (server : ServerState) (start : Start) (past : List Entry) (conn : ℕ)
       by false none =
           ap weight_of (empty none)
           ∙ ap (λ t. cond (t && is_none (account start past conn).fell)
-          (lives_weight (account start past conn) conn (wish_of start past conn) (since_of start past conn)
+          (lives_weight (account start past conn) conn (wish_on (wish_for start past conn)) (since_for start past conn)
           (all_lives start past)) 0) (sym none)
 
   -- whether it fell behind

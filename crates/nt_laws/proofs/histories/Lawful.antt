@@ -19,7 +19,7 @@ use Rattle.nt_rules.specs.declared.start.Start.{Start}
 use Rattle.nt_rules.specs.history.Now.{Now, Connection, now_of, is_open, is_open_for, is_there, open_ones}
 use Rattle.nt_rules.specs.history.Metas.{all_lives}
 use Rattle.nt_rules.specs.history.Owed.{Account, account, owed_by, owed, behind, messages, keys_owed, wish_on, wish_for}
-use Rattle.nt_rules.specs.history.Owed.{all_since}
+use Rattle.nt_rules.specs.history.Owed.{since_for}
 use Rattle.nt_rules.specs.history.Answer.{answer, entry, moment_of, are_spent, may_permit, given_name, names_of}
 use Rattle.nt_rules.specs.history.Answer.{drained_out, drained_batch, IsPrefix, IsBatch, IsLawful, Legal}
 use Rattle.nt_rules.specs.history.Step.{MayAct, IsEntryOf}
@@ -93,8 +93,7 @@ owed-behind a start past conn w e =
   where
     keys : List Key
     keys =
-        keys_owed a conn (wish_on (wish_for start past conn)) (λ l. all_since start past conn l.name)
-        (all_lives start past)
+        keys_owed a conn (wish_on (wish_for start past conn)) (since_for start past conn) (all_lives start past)
 
     by : (b : Bool) → cond (b && false) keys [] ≡ []
     by true = refl

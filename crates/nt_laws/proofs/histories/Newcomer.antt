@@ -14,7 +14,8 @@ use Rattle.nt_rules.specs.declared.topic.Saved.{Saved}
 use Rattle.nt_rules.specs.declared.topic.Pub.{Pub}
 use Rattle.nt_rules.specs.declared.topic.Cause.TheVariants.{NoConn}
 use Rattle.nt_rules.specs.topics.Topics.{has_publisher, has_conn, is_named, lives_on}
-use Rattle.nt_rules.specs.outbox.Keys.{Key, is_in, publish_key, setting_key}
+use Rattle.nt_topics.specs.Properties.{is_cached}
+use Rattle.nt_rules.specs.outbox.Keys.{Key, is_in, sets, publish_key, setting_key}
 use Rattle.nt_rules.specs.outbox.Marks.{fresh, is_blank, is_meta, meta_wish}
 use Rattle.nt_rules.specs.outbox.Calls.{fallen, nothing_owed}
 use Rattle.nt_rules.specs.declared.act.Msg.{Msg}
@@ -31,17 +32,19 @@ use Rattle.nt_rules.specs.history.Now.{Now, Connection, is_open, is_conn, is_the
 use Rattle.nt_rules.specs.history.Now.{said_cause, cause_of, is_traced, connections_after, lives_after, after_deed}
 use Rattle.nt_rules.specs.history.Now.{now_of}
 use Rattle.nt_rules.specs.history.Metas.{meta_place, meta_life, meta_lives, all_lives}
-use Rattle.nt_rules.specs.history.Owed.{Account, is_announced, owed_by, given_after, set_on, told_after, account}
-use Rattle.nt_rules.specs.history.Owed.{accounted, wish_for, wish_on, all_since, lives_weight, weight_by}
+use Rattle.nt_rules.specs.history.Owed.{Account, is_announced, owed_by, given_after, set_on, settings_after, account}
+use Rattle.nt_rules.specs.history.Owed.{accounted, wish_for, wish_on, since_for, keys_owed, lives_weight, weight_by}
+use Rattle.nt_rules.specs.history.Owed.{owed_values, owed_cached, owed_uncached, owed_newest, newest_for}
 use Rattle.nt_rules.specs.history.Answer.{Legal}
-use Rattle.nt_rules.specs.history.Marks.{kept_publish, kept_setting, mark_of, topic_mark, meta_mark, end_mark, marks_by}
-use Rattle.nt_rules.specs.history.Marks.{marks_owed}
+use Rattle.nt_rules.specs.history.Marks.{waiting_publish, waiting_setting, waiting_put, mark_of, topic_mark, meta_mark}
+use Rattle.nt_rules.specs.history.Marks.{end_mark, marks_by, marks_owed}
 use Rattle.nt_rules.specs.history.Step.{Owes}
 use Rattle.nt_laws.proofs.histories.Facts.{IsNumberedConnections, connections-numbered}
 use Rattle.nt_laws.proofs.topics.ItemFacts.{each-more, each-both, each-append}
 use Rattle.nt_laws.proofs.metas.AllLives.{IsNumbered, IsMetaLife, metas-are, clients-below}
 use Rattle.nt_laws.proofs.metas.MetaOrder.{connections-length, opens}
 use Rattle.nt_laws.proofs.marks.WishChanges.{given-other}
+use Rattle.nt_laws.proofs.topics.Turns.{setting-by}
 
 -- ---- a number that no connection has
 
@@ -116,7 +119,7 @@ refused n worker conn m e =
 -- ---- its account
 
 abbrev nothing : Account
-nothing = record { given = []; told_of = []; fell = None }
+nothing = record { given = []; told_settings = []; fell = None }
 
 -- it changes no properties
 set-none : (n : Now) (worker conn : ℕ) (d : Deed) → is_open_for n.connections worker conn ≡ false
@@ -143,14 +146,23 @@ weighs-new : (a : Account) (start : Start) (past : List Entry) (conn : ℕ)
     → weight_by a start past conn ≡ 0
 weighs-new a start past conn gone =
     ap (λ b. cond (b && is_none a.fell)
-    (lives_weight a conn (wish_on (wish_for start past conn)) (λ l. all_since start past conn l.name)
-    (all_lives start past)) 0) gone
+    (lives_weight a conn (wish_on (wish_for start past conn)) (since_for start past conn) (all_lives start past)) 0)
+    gone
 
-nothing-left : (a : Account) → a.given ≡ [] → a.told_of ≡ [] → a.fell ≡ None → a ≡ nothing
-nothing-left a g t f = fields a.given a.told_of a.fell g t f
+-- and nothing is owed to it
+owes-new : (a : Account) (start : Start) (past : List Entry) (conn : ℕ)
+    → is_there (now_of start past).connections conn ≡ false
+    → owed_by a start past conn ≡ []
+owes-new a start past conn gone =
+    ap (λ b. cond (b && is_none a.fell)
+    (keys_owed a conn (wish_on (wish_for start past conn)) (since_for start past conn) (all_lives start past)) [])
+    gone
+
+nothing-left : (a : Account) → a.given ≡ [] → a.told_settings ≡ [] → a.fell ≡ None → a ≡ nothing
+nothing-left a g t f = fields a.given a.told_settings a.fell g t f
   where
     fields : (given : List Key) (told : List ℕ) (fell : Option ℕ) → given ≡ [] → told ≡ [] → fell ≡ None
-        → record { given = given; told_of = told; fell = fell } ≡ nothing
+        → record { given = given; told_settings = told; fell = fell } ≡ nothing
     fields given told fell g t f = cc
 
 -- one entry more
@@ -167,14 +179,19 @@ stays-new start past e conn legal new gone before_is =
     shut worker = no-conn conn (λ c. c.worker == worker) (now_of start past).connections
         (none-numbered start past conn legal new)
 
+    owed : List Key
+    owed = owed_by (account start past conn) start past conn
+
+    none_owed : owed ≡ []
+    none_owed =
+        owes-new (account start past conn) start past conn
+        (not-there conn (now_of start past).connections (none-numbered start past conn legal new))
+
     given : (account start (e ∷ past) conn).given ≡ []
     given =
-        ap (λ b. given_after e.deed ((e.conn == conn) && b) (account start past conn).given
-        (owed_by (account start past conn) start past conn)) (shut e.worker)
-        ∙ ap (λ b. given_after e.deed b (account start past conn).given
-        (owed_by (account start past conn) start past conn)) (neither (e.conn == conn))
-        ∙ given-other e.deed (account start past conn).given
-        (owed_by (account start past conn) start past conn)
+        ap (λ b. given_after e.deed ((e.conn == conn) && b) (account start past conn).given owed) (shut e.worker)
+        ∙ ap (λ b. given_after e.deed b (account start past conn).given owed) (neither (e.conn == conn))
+        ∙ given-other e.deed (account start past conn).given owed
         ∙ ap (λ (a : Account). a.given) before_is
       where
         neither : (b : Bool) → (b && false) ≡ false
@@ -183,24 +200,26 @@ stays-new start past e conn legal new gone before_is =
 
     told : (set : Option ℕ) (b : Bool) → (e.conn == conn) ≡ b
         → (is_open_for (now_of start past).connections e.worker e.conn ≡ false → set ≡ None)
-        → told_after (account start past conn) conn ((now_of start past).place + 1) e.conn set ≡ []
-    told None b same none = ap (λ (a : Account). a.told_of) before_is
+        → settings_after (account start past conn) owed conn ((now_of start past).place + 1) e.conn set ≡ []
+    told None b same none = ap (λ (a : Account). a.told_settings) before_is
     told (Some id) true same none =
         let number : e.conn ≡ conn = grind (arith, nat_tests) in
         absurd (none-some id (sym
         (none (ap (λ c. is_open_for (now_of start past).connections e.worker c) number ∙ shut e.worker))))
     told (Some id) false same none =
-        ap (λ b. cond (b || is_announced (account start past conn) id)
-        (((now_of start past).place + 1) ∷ (account start past conn).told_of)
-        (account start past conn).told_of) same
-        ∙ ap (λ (a : Account). cond (is_announced a id) (((now_of start past).place + 1) ∷ a.told_of)
-        a.told_of) before_is
+        ap (λ b. cond (b || (is_announced (account start past conn) id || list_any (sets id) owed))
+        (((now_of start past).place + 1) ∷ (account start past conn).told_settings)
+        (account start past conn).told_settings) same
+        ∙ ap (λ ks. cond (is_announced (account start past conn) id || list_any (sets id) ks)
+        (((now_of start past).place + 1) ∷ (account start past conn).told_settings)
+        (account start past conn).told_settings) none_owed
+        ∙ ap (λ (a : Account). cond (is_announced a id || false) (((now_of start past).place + 1) ∷ a.told_settings)
+        a.told_settings) before_is
 
     fell : (account start (e ∷ past) conn).fell ≡ None
     fell =
         ap (λ w. fallen (account start past conn).fell w)
-        (weighs-new (accounted (account start past conn) (owed_by (account start past conn) start past conn)
-        (now_of start past) e conn) start (e ∷ past) conn gone)
+        (weighs-new (accounted (account start past conn) owed (now_of start past) e conn) start (e ∷ past) conn gone)
         ∙ ap (λ (a : Account). fallen a.fell 0) before_is
 
 pub account-new : (start : Start) (past : List Entry) (conn : ℕ) → Legal start past → IsNew start past conn
@@ -272,7 +291,8 @@ others-said conn place sender (msg.Control (Unpublish uid)) other lives h =
 others-said conn place sender (msg.Control (SetProps name update)) other lives h =
     others-at conn (λ l. is_living l && is_named name (topic_of l))
     (λ l. or_ended place (with_setting place sender update l))
-    (λ l k. others-ended conn place (with_setting place sender update l) k) lives h
+    (λ l k. others-ended conn place (with_setting place sender update l)
+    (setting-by place sender update l (OthersPublish conn) k k)) lives h
 others-said conn place sender (msg.Control (Subscribe uid sub)) other lives h = h
 others-said conn place sender (msg.Control (Unsubscribe uid)) other lives h = h
 others-said conn place sender (msg.Put v) other lives h =
@@ -351,18 +371,41 @@ none-told : (ss : List Setting) → filter (λ s. false) ss ≡ []
 none-told [] = refl
 none-told (s ∷ ss) = none-told ss
 
+-- of what isn't wanted no value is owed
+unwanted-values : (since : ℕ) (l : Life) → owed_values nothing No since l ≡ []
+unwanted-values since l = by (is_cached l.props)
+  where
+    by : (b : Bool) → cond b (owed_cached nothing No since l) (owed_uncached nothing No since l) ≡ []
+    by true = refl
+    by false = refl
+
+unwanted-newest : (l : Life) → owed_newest nothing No l ≡ None
+unwanted-newest l = by (is_cached l.props)
+  where
+    by : (b : Bool) → cond b (newest_for nothing No l) None ≡ None
+    by true = refl
+    by false = refl
+
 blank-topic : (conn since : ℕ) (l : Life) → OthersPublish conn l
     → is_blank (topic_mark nothing conn No since l) ≡ true
 blank-topic conn since l h =
-    ap (λ ps. is_blank (record (topic_mark nothing conn No since l) {
-      publishes = map kept_publish
+    ap (λ ps. is_blank (record (topic_mark nothing conn No since l) { values = map waiting_put ps }))
+    (unwanted-values since l)
+    ∙ ap (λ o. is_blank (record (topic_mark nothing conn No since l) { values = []; newest = o }))
+    (unwanted-newest l)
+    ∙ ap (λ ps. is_blank (record (topic_mark nothing conn No since l) {
+      values = [];
+      newest = None;
+      publishes = map waiting_publish
           (filter (λ (p : Publishing). not (is_in [] (publish_key l.id p.place))) ps);
     }))
     (none-own conn l.publishings h)
     ∙ ap (λ ss. is_blank (record (topic_mark nothing conn No since l) {
+      values = [];
+      newest = None;
       publishes = [];
       settings =
-          map (kept_setting conn) (filter (λ (s : Setting). not (is_in [] (setting_key l.id s.place))) ss);
+          map (waiting_setting conn) (filter (λ (s : Setting). not (is_in [] (setting_key l.id s.place))) ss);
     })) (none-told l.settings)
 
 blank-meta : (start : Start) (past : List Entry) (id : ℕ) (name : List ℕ) (over : Option ℕ)
@@ -423,7 +466,7 @@ marks-new start past conn legal numbered new =
     wish l = wish_on (wish_for start past conn) l
 
     since : Life → ℕ
-    since l = all_since start past conn l.name
+    since l = since_for start past conn l
 
     differ : (b : Bool) → b ≡ false → b ≡ true → ⊥
     differ b e f = cc

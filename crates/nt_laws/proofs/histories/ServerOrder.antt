@@ -6,7 +6,7 @@ use Rattle.nt_rules.specs.declared.start.Start.{Start}
 use Rattle.nt_rules.specs.history.Lives.{topics}
 use Rattle.nt_rules.specs.history.Metas.{roster_now}
 use Rattle.nt_rules.specs.history.Now.{Now, now_of, open_ones}
-use Rattle.nt_rules.specs.history.State.{roster_kept}
+use Rattle.nt_rules.specs.history.State.{open_roster}
 use Rattle.nt_rules.specs.history.Step.{ServerState, Represents}
 use Rattle.nt_rules.specs.meta.Rosters.{IsRoster, IsInOrder, HaveTheirValues}
 use Rattle.nt_rules.specs.topics.Apart.{AreApart}
@@ -21,14 +21,14 @@ module _ (server : ServerState) (start : Start) (past : List Entry) (stands : Re
   now = now_of start past
 
   abbrev roster : Roster
-  roster = roster_kept server.state.opens server.state.topics
+  roster = open_roster server.state.opens server.state.topics
 
   same-topics : server.state.topics ≡ topics now.lives
   same-topics = topics-are server.state now (kept-of server start past stands)
 
   same-roster : roster_now now ≡ roster
   same-roster =
-      sym (ap (λ ts. roster_kept server.state.opens ts) same-topics
+      sym (ap (λ ts. open_roster server.state.opens ts) same-topics
       ∙ roster-kept server.state.opens (open_ones now.connections) (topics now.lives) stands.opens_are)
 
   -- its topics stand by rising id, and their names differ

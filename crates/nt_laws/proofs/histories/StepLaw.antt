@@ -79,7 +79,8 @@ step-law start past old worker now a o e new few may small represents well out_i
 
     acts : IsKeptOf (acted old.state worker now a) (now_of start (replied ∷ past))
     acts =
-        kept-acted old.state (now_of start past) worker now a (orderly start past few represents.legal)
+        kept-acted old.state (now_of start past) worker now a
+        (orderly start past few represents.start_is.names represents.legal)
         (kept-of old start past represents)
 
     kept : IsKeptOf new.state (now_of start (e ∷ past))

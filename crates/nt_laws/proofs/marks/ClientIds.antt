@@ -1,8 +1,10 @@
 -- What an outbox is told of client topics are changes at ids below the first meta topic.
-use Rattle.std.proofs.Common.{◌≡◌, ◌<◌, ◌≤◌, ◌+◌, ◌^◌, not, ℕ, ℤ, pos, negsuc, suc, Bool, true, false, cond, ltb, List}
-use Rattle.std.proofs.Common.{[], ◌∷◌, ◌++◌, Option, Some, None, map, filter, length, refl, arith}
+use Rattle.std.proofs.Common.{◌≡◌, ◌<◌, ◌≤◌, ◌+◌, ◌^◌, not, ℕ, ℤ, pos, negsuc, suc, Bool, true, false, cond, ltb}
+use Rattle.std.proofs.Common.{List}
+use Rattle.std.proofs.Common.{[], ◌∷◌, ◌++◌, Option, Some, None, map, filter, length, refl, subst, arith}
 use Rattle.std.specs.List.{list_any, find, cons_option}
 use Rattle.std.proofs.lemmas.Bool.Decides.{nat_tests}
+use Rattle.std.proofs.lemmas.Option.{none-some, same_Some}
 use Rattle.nt_subs.specs.declared.wish.Wanted.{Wanted}
 use Rattle.nt_control.specs.declared.message.ClientMsg.TheVariants.{Publish, Unpublish, SetProps, Subscribe}
 use Rattle.nt_control.specs.declared.message.ClientMsg.TheVariants.{Unsubscribe}
@@ -10,20 +12,20 @@ use Rattle.nt_rules.specs.Limits.{first_meta}
 use Rattle.nt_rules.specs.declared.topic.Topic.{Topic}
 use Rattle.nt_rules.specs.declared.topic.Change.{Change}
 use Rattle.nt_rules.specs.declared.topic.Change.TheVariants as change
-use Rattle.nt_rules.specs.topics.Topics.{is_named, has_publisher, lives_on, outlives, with_update}
+use Rattle.nt_rules.specs.topics.Topics.{is_named, has_publisher, lives_on, outlives, is_turned, with_update}
 use Rattle.nt_rules.specs.topics.Topics as table
-use Rattle.nt_rules.specs.topics.Changes.{told_by, end_of, ended, update_change, put_change, drop_changes}
+use Rattle.nt_rules.specs.topics.Changes.{if_found, end_of, ended, update_change, put_change, drop_changes}
 use Rattle.nt_rules.specs.outbox.Marks.{is_empty}
 use Rattle.nt_rules.specs.outbox.Calls.{id_of}
 use Rattle.nt_rules.specs.declared.act.Msg.{Msg}
 use Rattle.nt_rules.specs.declared.act.Msg.TheVariants as msg
 use Rattle.nt_rules.specs.declared.taken.Taken.{Taken}
 use Rattle.nt_rules.specs.history.Lives.{Life, is_living, topic_of, topics}
-use Rattle.nt_rules.specs.history.State.{is_end, changes_said}
+use Rattle.nt_rules.specs.history.State.{is_end, cached_in, changes_said, turned_of, turned_id}
 use Rattle.nt_laws.proofs.histories.Facts.{IsNumberedLives}
 use Rattle.nt_laws.proofs.outboxes.OutboxCalls.{Op, is_id, NoneAt, change_op, change_ops, publish_ops, setting_ops}
-use Rattle.nt_laws.proofs.outboxes.OutboxCalls.{rewanted_op}
-use Rattle.nt_laws.proofs.outboxes.MessageCalls.{said_ops}
+use Rattle.nt_laws.proofs.outboxes.OutboxCalls.{turn_ops, rewanted_op}
+use Rattle.nt_laws.proofs.outboxes.MessageCalls.{message_ops, said_ops}
 
 -- ---- changes at ids of client topics
 
@@ -72,6 +74,12 @@ low-found test (t ∷ ts) low P none some = by (test t) (low-found test ts low.1
     by true more = some t low.0
     by false more = more
 
+pub low-one : (test : Topic → Bool) (ts : List Topic) → AreLow ts → (t : Topic) → find test ts ≡ Some t
+    → t.id < first_meta
+low-one test ts low t =
+    low-found test ts low (λ o. o ≡ Some t → t.id < first_meta) (λ e. absurd (none-some t e))
+    (λ s h e. subst (λ (x : Topic). x.id < first_meta) (same_Some s t e) h)
+
 abbrev IsLow : ℤ → Type 0
 IsLow (pos n) = n < first_meta
 IsLow (negsuc n) = Unit {0}
@@ -94,12 +102,13 @@ low-id (pos n) less = by (ltb n (2 ^ 32))
     by false = tt
 low-id (negsuc n) h = tt
 
-low-ops : (place : ℕ) (wish : List ℕ → Wanted) (changes : List Change) → LowChanges changes
-    → AreClient (change_ops place wish changes)
-low-ops place wish [] h = tt
-low-ops place wish (c ∷ changes) h = (by c h.0, low-ops place wish changes h.1)
+low-ops : (place : ℕ) (cached : List ℕ → Bool) (wish : List ℕ → Wanted) (changes : List Change)
+    → LowChanges changes
+    → AreClient (change_ops place cached wish changes)
+low-ops place cached wish [] h = tt
+low-ops place cached wish (c ∷ changes) h = (by c h.0, low-ops place cached wish changes h.1)
   where
-    by : (c : Change) → LowChange c → IsClient (change_op place wish c).id
+    by : (c : Change) → LowChange c → IsClient (change_op place cached wish c).id
     by (change.Started id name typ props) h = low-id id h
     by (change.Changed id name time value) h = low-id id h
     by (change.Props id name update) h = low-id id h
@@ -132,26 +141,25 @@ low-changes ts low next less conn (msg.Control (Publish name uid typ props)) =
     by false = (less, tt)
 low-changes ts low next less conn (msg.Control (Unpublish uid)) =
     low-found (has_publisher conn uid) ts low
-    (λ o. LowChanges (told_by (λ t. end_of (table.without_publisher conn uid t)) o)) tt
+    (λ o. LowChanges (if_found (λ t. end_of (table.without_publisher conn uid t)) o)) tt
     (λ t h. low-end (table.without_publisher conn uid t) h)
 low-changes ts low next less conn (msg.Control (SetProps name update)) =
-    low-found (is_named name) ts low (λ o. LowChanges (told_by (update_change update) o)) tt
+    low-found (is_named name) ts low (λ o. LowChanges (if_found (update_change update) o)) tt
     (λ t h. (h, low-end (with_update update t) h))
 low-changes ts low next less conn (msg.Control (Subscribe uid sub)) = tt
 low-changes ts low next less conn (msg.Control (Unsubscribe uid)) = tt
 low-changes ts low next less conn (msg.Put v) =
-    low-found (has_publisher conn v.id) ts low (λ o. LowChanges (told_by (put_change v.time v.value) o)) tt
+    low-found (has_publisher conn v.id) ts low (λ o. LowChanges (if_found (put_change v.time v.value) o)) tt
     (λ t h. (h, tt))
 
 -- ---- what is told
 
-pub low-said : (place : ℕ) (wish : List ℕ → Wanted) (ts after : List Topic) → AreLow ts → AreLow after
-    → (next : ℕ) → next < first_meta
-    → (conn : ℕ) (m : Msg) (own : Bool)
-    → AreClient (said_ops place wish after (changes_said ts next conn m) own m)
-low-said place wish ts after low still next less conn m false =
-    low-ops place wish (changes_said ts next conn m) (low-changes ts low next less conn m)
-low-said place wish ts after low still next less conn (msg.Control (Publish name uid typ props)) true =
+low-message : (place : ℕ) (cached : List ℕ → Bool) (wish : List ℕ → Wanted) (ts after : List Topic) → AreLow ts
+    → AreLow after → (next : ℕ) → next < first_meta → (conn : ℕ) (m : Msg) (own : Bool)
+    → AreClient (message_ops place cached wish after (changes_said ts next conn m) own m)
+low-message place cached wish ts after low still next less conn m false =
+    low-ops place cached wish (changes_said ts next conn m) (low-changes ts low next less conn m)
+low-message place cached wish ts after low still next less conn (msg.Control (Publish name uid typ props)) true =
     low-found (is_named name) after still (λ o. AreClient (publish_ops place o uid begins wish)) tt
     (λ t h. by t h begins)
   where
@@ -161,26 +169,58 @@ low-said place wish ts after low still next less conn (msg.Control (Publish name
     by : (t : Topic) → t.id < first_meta → (b : Bool) → AreClient (publish_ops place (Some t) uid b wish)
     by t h true = (h, (h, tt))
     by t h false = (h, tt)
-low-said place wish ts after low still next less conn (msg.Control (SetProps name update)) true =
+low-message place cached wish ts after low still next less conn (msg.Control (SetProps name update)) true =
     append-client (setting_ops place (find (is_named name) after) update)
-    (change_ops place wish (filter is_end changes))
+    (change_ops place cached wish (filter is_end changes))
     (low-found (is_named name) after still (λ o. AreClient (setting_ops place o update)) tt (λ t h. (h, tt)))
-    (low-ops place wish (filter is_end changes)
+    (low-ops place cached wish (filter is_end changes)
     (low-filter is_end changes (low-changes ts low next less conn (msg.Control (SetProps name update)))))
   where
     changes : List Change
     changes = changes_said ts next conn (msg.Control (SetProps name update))
-low-said place wish ts after low still next less conn (msg.Control (Unpublish uid)) true =
-    low-ops place wish _ (low-changes ts low next less conn (msg.Control (Unpublish uid)))
-low-said place wish ts after low still next less conn (msg.Control (Subscribe uid sub)) true = tt
-low-said place wish ts after low still next less conn (msg.Control (Unsubscribe uid)) true = tt
-low-said place wish ts after low still next less conn (msg.Put v) true =
-    low-ops place wish _ (low-changes ts low next less conn (msg.Put v))
+low-message place cached wish ts after low still next less conn (msg.Control (Unpublish uid)) true =
+    low-ops place cached wish _ (low-changes ts low next less conn (msg.Control (Unpublish uid)))
+low-message place cached wish ts after low still next less conn (msg.Control (Subscribe uid sub)) true = tt
+low-message place cached wish ts after low still next less conn (msg.Control (Unsubscribe uid)) true = tt
+low-message place cached wish ts after low still next less conn (msg.Put v) true =
+    low-ops place cached wish _ (low-changes ts low next less conn (msg.Put v))
 
-pub low-dropped : (place : ℕ) (wish : List ℕ → Wanted) (ts : List Topic) → AreLow ts → (conn : ℕ)
-    → AreClient (change_ops place wish (drop_changes ts conn))
-low-dropped place wish ts low conn =
-    low-ops place wish (drop_changes ts conn) (ends (λ t. not (outlives conn t)) ts low)
+-- a topic that turns is one of those after it
+low-turn : (before after : List Topic) → AreLow after → (m : Msg) → AreClient (turn_ops (turned_id before after m))
+low-turn before after low (msg.Control (Publish name uid typ props)) = tt
+low-turn before after low (msg.Control (Unpublish uid)) = tt
+low-turn before after low (msg.Control (Subscribe uid sub)) = tt
+low-turn before after low (msg.Control (Unsubscribe uid)) = tt
+low-turn before after low (msg.Put v) = tt
+low-turn before after low (msg.Control (SetProps name update)) =
+    low-found (is_named name) after low (λ o. AreClient (turn_ops (turned_of (find (is_named name) before) o)))
+    (none (find (is_named name) before)) (λ t h. some t h (find (is_named name) before))
+  where
+    none : (o : Option Topic) → AreClient (turn_ops (turned_of o None))
+    none None = tt
+    none (Some t) = tt
+
+    some : (t : Topic) → t.id < first_meta → (o : Option Topic) → AreClient (turn_ops (turned_of o (Some t)))
+    some t h None = tt
+    some t h (Some was) = by (is_turned was.props t.props)
+      where
+        by : (b : Bool) → AreClient (turn_ops (cond b (Some t.id) None))
+        by true = (h, tt)
+        by false = tt
+
+pub low-said : (place : ℕ) (wish : List ℕ → Wanted) (ts after : List Topic) → AreLow ts → AreLow after
+    → (next : ℕ) → next < first_meta
+    → (conn : ℕ) (m : Msg) (own : Bool)
+    → AreClient (said_ops place wish ts after (changes_said ts next conn m) own m)
+low-said place wish ts after low still next less conn m own =
+    append-client (turn_ops (turned_id ts after m))
+    (message_ops place (cached_in after) wish after (changes_said ts next conn m) own m)
+    (low-turn ts after still m) (low-message place (cached_in after) wish ts after low still next less conn m own)
+
+pub low-dropped : (place : ℕ) (cached : List ℕ → Bool) (wish : List ℕ → Wanted) (ts : List Topic) → AreLow ts
+    → (conn : ℕ) → AreClient (change_ops place cached wish (drop_changes ts conn))
+low-dropped place cached wish ts low conn =
+    low-ops place cached wish (drop_changes ts conn) (ends (λ t. not (outlives conn t)) ts low)
   where
     ends : (test : Topic → Bool) (ts : List Topic) → AreLow ts → LowChanges (map ended (filter test ts))
     ends test [] h = tt

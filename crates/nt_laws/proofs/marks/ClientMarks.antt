@@ -1,5 +1,6 @@
 -- What a history keeps of client topics for a connection, before and after an entry that hands nothing.
-use Rattle.std.proofs.Common.{◌≡◌, ◌<◌, ◌≤◌, ◌+◌, ◌==◌, ◌&&◌, ◌||◌, not, ℕ, suc, Bool, true, false, cond, List, [], ◌∷◌}
+use Rattle.std.proofs.Common.{◌≡◌, ◌<◌, ◌≤◌, ◌+◌, ◌==◌, ◌&&◌, ◌||◌, not, ℕ, suc, Bool, true, false, cond, List, []}
+use Rattle.std.proofs.Common.{◌∷◌}
 use Rattle.std.proofs.Common.{Option, Some, None, map, length, refl, sym, ◌∙◌, ap, subst, arith}
 use Rattle.std.specs.Option.{option_or}
 use Rattle.std.specs.List.{AllByRecursion, list_any}
@@ -8,10 +9,11 @@ use Rattle.std.proofs.lemmas.Option.{none-some}
 use Rattle.std.proofs.lemmas.List.Folds.{find-append}
 use Rattle.nt_subs.specs.declared.wish.Wanted.{Wanted}
 use Rattle.nt_rules.specs.Limits.{first_meta}
-use Rattle.nt_rules.specs.outbox.Keys.{Key}
-use Rattle.nt_rules.specs.outbox.Marks.{is_meta, meta_wish}
+use Rattle.nt_rules.specs.outbox.Keys.{Key, sets}
+use Rattle.nt_rules.specs.outbox.Marks.{is_valued, is_meta, meta_wish}
 use Rattle.nt_rules.specs.declared.act.Deed.{Deed}
-use Rattle.nt_rules.specs.declared.act.Deed.TheVariants.{Opened, NotOpened, Said, Drained, Closed, Permitted, NoPermit}
+use Rattle.nt_rules.specs.declared.act.Deed.TheVariants.{Opened, NotOpened, Said, Drained, Closed, Permitted}
+use Rattle.nt_rules.specs.declared.act.Deed.TheVariants.{NoPermit}
 use Rattle.nt_rules.specs.declared.act.Deed.TheVariants.{Shut}
 use Rattle.nt_rules.specs.declared.act.Entry.{Entry}
 use Rattle.nt_rules.specs.history.Lives.{Life, is_living}
@@ -19,8 +21,9 @@ use Rattle.nt_rules.specs.history.Answer.{Legal}
 use Rattle.nt_rules.specs.declared.start.Start.{Start}
 use Rattle.nt_rules.specs.history.Now.{now_of, is_open_for}
 use Rattle.nt_rules.specs.history.Metas.{meta_lives, all_lives}
-use Rattle.nt_rules.specs.history.Owed.{Account, account, owed_by, given_after, told_after, set_on, is_announced}
-use Rattle.nt_rules.specs.history.Owed.{life_at, is_all, wish_for, wish_on, all_since}
+use Rattle.nt_rules.specs.history.Owed.{Account, account, owed_by, given_after, settings_after, set_on, is_announced}
+use Rattle.nt_rules.specs.history.Owed.{life_at, is_all, wish_for, wish_on, wanted_since, all_since, valued_since}
+use Rattle.nt_rules.specs.history.Owed.{since_for}
 use Rattle.nt_rules.specs.history.Marks.{mark_of, topic_mark, meta_mark, end_mark, marks_owed}
 use Rattle.nt_laws.proofs.histories.Facts.{ArePlaced, place-is, lives-placed}
 use Rattle.nt_laws.proofs.metas.AllLives.{IsNumbered, IsMetaLife, metas-are}
@@ -29,9 +32,9 @@ use Rattle.nt_laws.proofs.metas.MetaGrowth.{has_row, rows_of}
 use Rattle.nt_laws.proofs.metas.MetaOrder.{all-rows, lives-rise}
 use Rattle.nt_laws.proofs.marks.GivenKeys.{IsPast, given-past, not-given, next-past, unknown-announced, unknown-next}
 use Rattle.nt_laws.proofs.marks.MarksById.{look, keep_opt, kept_of, look-marks_by}
-use Rattle.nt_laws.proofs.marks.MarkLaws.{Agree, IsUnheard, is_told}
+use Rattle.nt_laws.proofs.marks.MarkLaws.{counts, Agree, IsUnheard, is_told}
 use Rattle.nt_laws.proofs.topics.FoundLives.{life-id}
-use Rattle.nt_laws.proofs.marks.ClientMarksById.{client_mark, client_at, Scene, SameSince}
+use Rattle.nt_laws.proofs.marks.ClientMarksById.{since_of, client_mark, client_at, Scene, SameSince}
 
 -- ---- what is found at the id of a client topic
 
@@ -57,31 +60,36 @@ client-life start past k low =
     by None = refl
     by (Some l) = refl
 
+-- the place of the wish that counts for a topic, by whether it is cached and by its name
+abbrev pub since_by : Start → List Entry → ℕ → Bool → List ℕ → ℕ
+since_by start past conn cached name =
+    cond cached (all_since start past conn name) (valued_since start past conn name)
+
 -- the mark of a client life
-client-mark : (a : Account) (conn : ℕ) (wish : List ℕ → Wanted) (since : List ℕ → ℕ) (l : Life)
+client-mark : (a : Account) (conn : ℕ) (wish : List ℕ → Wanted) (since : Bool → List ℕ → ℕ) (l : Life)
     → is_meta l.id ≡ false
-    → mark_of a conn (wish_on wish) (λ l. since l.name) l ≡ client_mark a conn wish since l
+    → mark_of a conn (wish_on wish) (since_of since) l ≡ client_mark a conn wish since l
 client-mark a conn wish since l client =
     ap (λ b. cond (not (is_living l)) (end_mark a l)
     (cond b (meta_mark a (cond b (meta_wish (wish l.name)) (wish l.name)) l)
-    (topic_mark a conn (cond b (meta_wish (wish l.name)) (wish l.name)) (since l.name) l))) client
+    (topic_mark a conn (cond b (meta_wish (wish l.name)) (wish l.name)) (since_of since l) l))) client
     ∙ by (is_living l)
   where
-    by : (b : Bool) → cond (not b) (end_mark a l) (topic_mark a conn (wish l.name) (since l.name) l)
-        ≡ cond b (topic_mark a conn (wish l.name) (since l.name) l) (end_mark a l)
+    by : (b : Bool) → cond (not b) (end_mark a l) (topic_mark a conn (wish l.name) (since_of since l) l)
+        ≡ cond b (topic_mark a conn (wish l.name) (since_of since l) l) (end_mark a l)
     by true = refl
     by false = refl
 
 pub client-look : (start : Start) (past : List Entry) (conn : ℕ) → IsNumbered start past → (k : ℕ)
     → k < first_meta
     → look k (marks_owed start past conn)
-    ≡ client_at (account start past conn) conn (wish_for start past conn) (all_since start past conn) k
+    ≡ client_at (account start past conn) conn (wish_for start past conn) (since_by start past conn) k
     (now_of start past).lives
 client-look start past conn numbered k low =
-    look-marks_by k a conn (wish_on (wish_for start past conn)) (λ l. all_since start past conn l.name)
+    look-marks_by k a conn (wish_on (wish_for start past conn)) (since_for start past conn)
     (all_lives start past) (lives-rise start past numbered)
     ∙ ap (λ o. kept_of
-    (mark_of a conn (wish_on (wish_for start past conn)) (λ l. all_since start past conn l.name)) o)
+    (mark_of a conn (wish_on (wish_for start past conn)) (since_for start past conn)) o)
     (client-life start past k low)
     ∙ by (life_at k (now_of start past).lives) refl
   where
@@ -90,13 +98,13 @@ client-look start past conn numbered k low =
 
     by : (o : Option Life) → life_at k (now_of start past).lives ≡ o
         → kept_of
-        (mark_of a conn (wish_on (wish_for start past conn)) (λ l. all_since start past conn l.name)) o
-        ≡ kept_of (client_mark a conn (wish_for start past conn) (all_since start past conn)) o
+        (mark_of a conn (wish_on (wish_for start past conn)) (since_for start past conn)) o
+        ≡ kept_of (client_mark a conn (wish_for start past conn) (since_by start past conn)) o
     by None e = refl
     by (Some l) e =
         let id = life-id k (now_of start past).lives l e in
         let client : is_meta l.id ≡ false = grind (arith, nat_tests) in
-        ap keep_opt (client-mark a conn (wish_for start past conn) (all_since start past conn) l client)
+        ap keep_opt (client-mark a conn (wish_for start past conn) (since_by start past conn) l client)
 
 -- ---- places of the past
 
@@ -114,7 +122,7 @@ told-low start (e ∷ past) conn s less =
     place = (now_of start past).place + 1
 
     told_by : is_told before s ≡ false → (b : Bool)
-        → list_any (λ p. p == s) (cond b (place ∷ before.told_of) before.told_of) ≡ false
+        → list_any (λ p. p == s) (cond b (place ∷ before.told_settings) before.told_settings) ≡ false
     told_by more true =
         let at = place-is start past in
         let other : (place == s) ≡ false = grind (arith, nat_tests) in
@@ -122,21 +130,28 @@ told-low start (e ∷ past) conn s less =
     told_by more false = more
 
     by : is_told before s ≡ false → (o : Option ℕ)
-        → list_any (λ p. p == s) (told_after before conn place e.conn o) ≡ false
+        → list_any (λ p. p == s) (settings_after before (owed_by before start past conn) conn place e.conn o) ≡ false
     by more None = more
-    by more (Some id) = told_by more ((e.conn == conn) || is_announced before id)
+    by more (Some id) =
+        told_by more
+        ((e.conn == conn) || (is_announced before id || list_any (sets id) (owed_by before start past conn)))
 
--- the place since which it is All is of the past
-since-low : (start : Start) (past : List Entry) (conn : ℕ) (name : List ℕ)
-    → all_since start past conn name ≤ length past
-since-low start [] conn name = omega arith
-since-low start (e ∷ past) conn name =
-    by (is_all (wish_for start past conn name)) (since-low start past conn name)
+-- the place since which a wish passes a test is of the past
+wanted-low : (test : Wanted → Bool) (start : Start) (past : List Entry) (conn : ℕ) (name : List ℕ)
+    → wanted_since test start past conn name ≤ length past
+wanted-low test start [] conn name = omega arith
+wanted-low test start (e ∷ past) conn name =
+    by (test (wish_for start past conn name)) (wanted-low test start past conn name)
   where
-    by : (b : Bool) → all_since start past conn name ≤ length past
-        → cond b (all_since start past conn name) (length past + 1) ≤ suc (length past)
+    by : (b : Bool) → wanted_since test start past conn name ≤ length past
+        → cond b (wanted_since test start past conn name) (length past + 1) ≤ suc (length past)
     by true le = omega arith
     by false le = omega arith
+
+since-low : (start : Start) (past : List Entry) (conn : ℕ) (cached : Bool) (name : List ℕ)
+    → since_by start past conn cached name ≤ length past
+since-low start past conn true name = wanted-low is_all start past conn name
+since-low start past conn false name = wanted-low is_valued start past conn name
 
 -- ---- entries that hand nothing
 
@@ -179,7 +194,7 @@ accounts-agree start past e conn hands =
     place = (now_of start past).place + 1
 
     told_by : (s : ℕ) → s ≤ length past → (b : Bool)
-        → list_any (λ p. p == s) (cond b (place ∷ before.told_of) before.told_of) ≡ is_told before s
+        → list_any (λ p. p == s) (cond b (place ∷ before.told_settings) before.told_settings) ≡ is_told before s
     told_by s le true =
         let at = place-is start past in
         let other : (place == s) ≡ false = grind (arith, nat_tests) in
@@ -187,9 +202,12 @@ accounts-agree start past e conn hands =
     told_by s le false = refl
 
     by : (s : ℕ) → s ≤ length past → (o : Option ℕ)
-        → list_any (λ p. p == s) (told_after before conn place e.conn o) ≡ is_told before s
+        → list_any (λ p. p == s) (settings_after before (owed_by before start past conn) conn place e.conn o)
+        ≡ is_told before s
     by s le None = refl
-    by s le (Some id) = told_by s le ((e.conn == conn) || is_announced before id)
+    by s le (Some id) =
+        told_by s le
+        ((e.conn == conn) || (is_announced before id || list_any (sets id) (owed_by before start past conn)))
 
 -- an id that no life has is none of a row
 no-row : (k : ℕ) (lives : List Life) → life_at k lives ≡ None → has_row k (map row_of_life lives) ≡ false
@@ -205,7 +223,7 @@ no-row k (l ∷ lives) e = by (l.id == k) (λ h. no-row k lives h) e
 pub scene : (start : Start) (past : List Entry) (e : Entry) (conn : ℕ) → IsNumbered start past
     → Legal start past → HandsNothing e.deed
     → Scene (length past) (account start past conn) (account start (e ∷ past) conn)
-    (all_since start past conn) (now_of start past).lives
+    (since_by start past conn) (now_of start past).lives
 scene start past e conn numbered legal hands =
     record {
       agree = accounts-agree start past e conn hands;
@@ -242,8 +260,15 @@ scene start past e conn numbered legal hands =
               (account start past conn).given given unknown;
         }
 
--- a wish for All stays so since its place
+-- a wish counts further from its place, or from the next one on
+pub since-after : (start : Start) (past : List Entry) (e : Entry) (conn : ℕ) (cached : Bool) (name : List ℕ)
+    → since_by start (e ∷ past) conn cached name
+    ≡ cond (counts cached (wish_for start past conn name)) (since_by start past conn cached name) (length past + 1)
+since-after start past e conn true name = refl
+since-after start past e conn false name = refl
+
 pub same-since : (start : Start) (past : List Entry) (e : Entry) (conn : ℕ)
-    → SameSince (wish_for start past conn) (all_since start past conn) (all_since start (e ∷ past) conn)
-same-since start past e conn name all =
-    ap (λ w. cond (is_all w) (all_since start past conn name) (length past + 1)) all
+    → SameSince (wish_for start past conn) (since_by start past conn) (since_by start (e ∷ past) conn)
+same-since start past e conn cached name still =
+    since-after start past e conn cached name
+    ∙ ap (λ b. cond b (since_by start past conn cached name) (length past + 1)) still

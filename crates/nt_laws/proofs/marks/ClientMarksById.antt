@@ -5,60 +5,66 @@ use Rattle.std.specs.Prelude.{option_map}
 use Rattle.std.specs.List.{find}
 use Rattle.std.proofs.lemmas.Bool.{and_parts}
 use Rattle.std.proofs.lemmas.Bool.Decides.{nat_tests}
-use Rattle.serde_json.specs.Data.{Data}
 use Rattle.nt_values.specs.declared.value.Value.{Value}
+use Rattle.nt_topics.specs.Properties.{is_cached}
 use Rattle.nt_subs.specs.declared.wish.Wanted.{Wanted}
-use Rattle.nt_subs.specs.declared.wish.Wanted.TheVariants.{All}
 use Rattle.nt_rules.specs.Limits.{first_meta}
 use Rattle.nt_rules.specs.declared.topic.Pub.{Pub}
 use Rattle.nt_rules.specs.declared.topic.Topic.{Topic}
 use Rattle.nt_rules.specs.declared.topic.Change.TheVariants as change
 use Rattle.nt_rules.specs.declared.topic.Cause.TheVariants.{Older}
-use Rattle.nt_rules.specs.topics.Puts.{Put, taken}
+use Rattle.nt_rules.specs.topics.Puts.{Put}
 use Rattle.nt_rules.specs.topics.Topics.{has_publisher, lives_on, put_cause, put_cause_at}
-use Rattle.nt_rules.specs.topics.Changes.{told_by, put_change, put_changes, end_of, unpublish_changes}
+use Rattle.nt_rules.specs.topics.Changes.{if_found, put_change, put_changes, end_of, unpublish_changes}
 use Rattle.nt_rules.specs.topics.Topics as table
 use Rattle.nt_rules.specs.outbox.Marks.{Mark}
 use Rattle.nt_rules.specs.outbox.Keys.{Key, is_in, end_key, next_value}
-use Rattle.nt_rules.specs.outbox.Marks.{fresh, is_blank}
+use Rattle.nt_rules.specs.outbox.Marks.{fresh, is_blank, noted_value, ended}
 use Rattle.nt_rules.specs.outbox.Calls.{id_of}
-use Rattle.nt_rules.specs.history.Lives.{Life, is_living, topic_of, topics, taken_of, at_first, at_living, or_ended}
+use Rattle.nt_rules.specs.history.Lives.{Life, is_living, topic_of, topics, taken_since_turn, at_first, at_living}
+use Rattle.nt_rules.specs.history.Lives.{or_ended}
 use Rattle.nt_rules.specs.history.Lives.{with_a_put, without_publisher}
 use Rattle.nt_rules.specs.history.Owed.{Account, life_at, place_by}
-use Rattle.nt_rules.specs.history.Marks.{topic_mark, end_mark}
-use Rattle.nt_laws.proofs.histories.Facts.{id-or_ended, AllBefore, IsNumberedLives, ArePlaced, IsPlaced, placed-find}
-use Rattle.nt_laws.proofs.topics.TakenPuts.{taken-put, taken-older, before-taken}
+use Rattle.nt_rules.specs.history.Marks.{topic_mark, end_mark, waiting_put}
+use Rattle.nt_laws.proofs.histories.Facts.{id-or_ended, AllBefore, before-since, IsNumberedLives, ArePlaced, IsPlaced}
+use Rattle.nt_laws.proofs.histories.Facts.{placed-find}
+use Rattle.nt_laws.proofs.topics.TakenPuts.{since-put, since-older}
 use Rattle.nt_laws.proofs.topics.TopicLaws.{counts-newer, refused-older}
 use Rattle.nt_laws.proofs.marks.MarksById.{keep_opt, or_fresh, kept_of, AreRising, blank-fresh}
 use Rattle.nt_laws.proofs.outboxes.OutboxCalls.{Op, is_id, is_at, step_at, run_at, NoneAt, none-at, change_op}
 use Rattle.nt_laws.proofs.outboxes.OutboxCalls.{change_ops}
-use Rattle.nt_laws.proofs.marks.MarkLaws.{Agree, IsUnheard, mark-same, end-same, mark-put, mark-ended}
+use Rattle.nt_laws.proofs.marks.MarkLaws.{counts, Agree, IsUnheard, mark-same, end-same, mark-put, mark-ended}
 use Rattle.nt_laws.proofs.topics.FoundLives.{rising-numbered, first-none, found-passes, found-at, life-first}
 use Rattle.nt_laws.proofs.topics.FoundLives.{find-topics}
 
 -- ---- what is kept of a client topic
 
-abbrev pub client_mark : Account → ℕ → (List ℕ → Wanted) → (List ℕ → ℕ) → Life → Mark
+-- the place of the wish that counts for a life, by that for cached topics and that for others
+abbrev pub since_of : (Bool → List ℕ → ℕ) → Life → ℕ
+since_of since l = since (is_cached l.props) l.name
+
+abbrev pub client_mark : Account → ℕ → (List ℕ → Wanted) → (Bool → List ℕ → ℕ) → Life → Mark
 client_mark a conn wish since l =
-    cond (is_living l) (topic_mark a conn (wish l.name) (since l.name) l) (end_mark a l)
+    cond (is_living l) (topic_mark a conn (wish l.name) (since_of since l) l) (end_mark a l)
 
 -- what is found at an id
-abbrev pub client_at : Account → ℕ → (List ℕ → Wanted) → (List ℕ → ℕ) → ℕ → List Life → Option Mark
+abbrev pub client_at : Account → ℕ → (List ℕ → Wanted) → (Bool → List ℕ → ℕ) → ℕ → List Life → Option Mark
 client_at a conn wish since k lives = kept_of (client_mark a conn wish since) (life_at k lives)
 
 -- the accounts before and after an entry that hands nothing, and the lives before it, at the place n
-pub record Scene (n : ℕ) (a b : Account) (since : List ℕ → ℕ) (lives : List Life) : Type 0 where
+pub record Scene (n : ℕ) (a b : Account) (since : Bool → List ℕ → ℕ) (lives : List Life) : Type 0 where
   pub agree : Agree n a b
   pub numbered : IsNumberedLives 1 lives
   pub placed : ArePlaced n lives
   pub not_given : (k : Key) → k.place ≡ n + 1 → is_in a.given k ≡ false
   pub next_low : (id : ℕ) → next_value a.given id ≤ n + 1
-  pub since_low : (name : List ℕ) → since name ≤ n
+  pub since_low : (cached : Bool) (name : List ℕ) → since cached name ≤ n
   pub unheard : (k : ℕ) → k < first_meta → life_at k lives ≡ None → IsUnheard k a
 
--- the wishes stay: under All the place since which it is that stays too
-abbrev pub SameSince : (List ℕ → Wanted) → (List ℕ → ℕ) → (List ℕ → ℕ) → Type 0
-SameSince wish since now = (name : List ℕ) → wish name ≡ All → now name ≡ since name
+-- the wishes stay: where it counts the place since which it is that stays too
+abbrev pub SameSince : (List ℕ → Wanted) → (Bool → List ℕ → ℕ) → (Bool → List ℕ → ℕ) → Type 0
+SameSince wish since now =
+    (cached : Bool) (name : List ℕ) → counts cached (wish name) ≡ true → now cached name ≡ since cached name
 
 -- ---- steps
 
@@ -95,27 +101,26 @@ other-id n k e = by (ltb n (2 ^ 32))
 
 -- ---- what stays
 
--- a life with other publishers, properties or puts, of which the same are taken
-pub client-same : (n : ℕ) (a b : Account) (conn : ℕ) (wish : List ℕ → Wanted) (since now : List ℕ → ℕ)
+-- a life with other publishers or puts, of which the same are taken
+pub client-same : (n : ℕ) (a b : Account) (conn : ℕ) (wish : List ℕ → Wanted) (since now : Bool → List ℕ → ℕ)
     → Agree n a b → SameSince wish since now
-    → (l : Life) → IsPlaced n l → (pubs : List Pub) (props : Data) (puts : List Put) → taken puts
-    ≡ taken l.puts
-    → client_mark b conn wish now (record l { pubs = pubs; props = props; puts = puts })
+    → (l : Life) → IsPlaced n l → (pubs : List Pub) (puts : List Put)
+    → taken_since_turn (record l { pubs = pubs; puts = puts }) ≡ taken_since_turn l
+    → client_mark b conn wish now (record l { pubs = pubs; puts = puts })
     ≡ client_mark a conn wish since l
-client-same n a b conn wish since now agree same l placed pubs props puts e = by (is_living l)
+client-same n a b conn wish since now agree same l placed pubs puts e = by (is_living l)
   where
     by : (living : Bool)
         → cond living
-        (topic_mark b conn (wish l.name) (now l.name)
-        (record l { pubs = pubs; props = props; puts = puts })) (end_mark b
-        (record l { pubs = pubs; props = props; puts = puts }))
-        ≡ cond living (topic_mark a conn (wish l.name) (since l.name) l) (end_mark a l)
-    by true = mark-same n a b agree conn (wish l.name) (since l.name) (now l.name)
-        (same l.name) l placed.settings_rise pubs props puts e
-    by false = end-same a b agree.given_are l pubs props puts
+        (topic_mark b conn (wish l.name) (since_of now l)
+        (record l { pubs = pubs; puts = puts })) (end_mark b (record l { pubs = pubs; puts = puts }))
+        ≡ cond living (topic_mark a conn (wish l.name) (since_of since l) l) (end_mark a l)
+    by true = mark-same n a b agree conn (wish l.name) (since_of since l) (since_of now l) l
+        (same (is_cached l.props) l.name) placed.settings_rise pubs puts e
+    by false = end-same a b agree.given_are l pubs l.props puts
 
 -- a life to which nothing happened
-pub kept-stays : (n : ℕ) (a b : Account) (conn : ℕ) (wish : List ℕ → Wanted) (since now : List ℕ → ℕ)
+pub kept-stays : (n : ℕ) (a b : Account) (conn : ℕ) (wish : List ℕ → Wanted) (since now : Bool → List ℕ → ℕ)
     (lives : List Life)
     → Scene n a b since lives → SameSince wish since now → (k : ℕ) (o : Option Life) → life_at k lives ≡ o
     → kept_of (client_mark a conn wish since) o ≡ kept_of (client_mark b conn wish now) o
@@ -123,9 +128,9 @@ kept-stays n a b conn wish since now lives scene same k None e = refl
 kept-stays n a b conn wish since now lives scene same k (Some l) e =
     let placed : IsPlaced n l = placed-find (λ l. l.id == k) n lives l scene.placed e in
     ap keep_opt
-    (sym (client-same n a b conn wish since now scene.agree same l placed l.pubs l.props l.puts refl))
+    (sym (client-same n a b conn wish since now scene.agree same l placed l.pubs l.puts refl))
 
-pub client-stays : (n : ℕ) (a b : Account) (conn : ℕ) (wish : List ℕ → Wanted) (since now : List ℕ → ℕ)
+pub client-stays : (n : ℕ) (a b : Account) (conn : ℕ) (wish : List ℕ → Wanted) (since now : Bool → List ℕ → ℕ)
     (lives : List Life)
     → Scene n a b since lives → SameSince wish since now → (k : ℕ)
     → client_at a conn wish since k lives ≡ client_at b conn wish now k lives
@@ -133,7 +138,7 @@ client-stays n a b conn wish since now lives scene same k =
     kept-stays n a b conn wish since now lives scene same k (life_at k lives) refl
 
 -- changes at the first life that passes: at other ids nothing happens
-pub client-found : (n : ℕ) (a b : Account) (conn : ℕ) (wish : List ℕ → Wanted) (since now : List ℕ → ℕ)
+pub client-found : (n : ℕ) (a b : Account) (conn : ℕ) (wish : List ℕ → Wanted) (since now : Bool → List ℕ → ℕ)
     (lives : List Life)
     → Scene n a b since lives → SameSince wish since now → (k : ℕ)
     → (test : Life → Bool) (f : Life → Life) → ((l : Life) → (f l).id ≡ l.id) → (m : Life) → find test lives
@@ -162,7 +167,7 @@ client-found n a b conn wish since now lives scene same k test f ids m found ops
         ∙ client-stays n a b conn wish since now lives scene same k
 
 -- where none passes, nothing happens
-pub client-none : (n : ℕ) (a b : Account) (conn : ℕ) (wish : List ℕ → Wanted) (since now : List ℕ → ℕ)
+pub client-none : (n : ℕ) (a b : Account) (conn : ℕ) (wish : List ℕ → Wanted) (since now : Bool → List ℕ → ℕ)
     (lives : List Life)
     → Scene n a b since lives → SameSince wish since now → (k : ℕ) (test : Life → Bool) (f : Life → Life)
     → find test lives ≡ None
@@ -172,11 +177,11 @@ client-none n a b conn wish since now lives scene same k test f none =
     ∙ sym (ap (λ ls. client_at b conn wish now k ls) (first-none test f lives none))
 
 -- the mark of a life that goes on
-pub living-mark : (a : Account) (conn : ℕ) (wish : List ℕ → Wanted) (since : List ℕ → ℕ) (l : Life)
+pub living-mark : (a : Account) (conn : ℕ) (wish : List ℕ → Wanted) (since : Bool → List ℕ → ℕ) (l : Life)
     → is_living l ≡ true
-    → client_mark a conn wish since l ≡ topic_mark a conn (wish l.name) (since l.name) l
+    → client_mark a conn wish since l ≡ topic_mark a conn (wish l.name) (since_of since l) l
 living-mark a conn wish since l e =
-    ap (λ b. cond b (topic_mark a conn (wish l.name) (since l.name) l) (end_mark a l)) e
+    ap (λ b. cond b (topic_mark a conn (wish l.name) (since_of since l) l) (end_mark a l)) e
 
 -- ---- puts
 
@@ -188,18 +193,25 @@ place-by-before n since (p ∷ ps) h = by (leb p.place since) (place-by-before n
     by true more = let less = h.0 in omega arith
     by false more = more
 
+-- whether the topic of a put is cached
+abbrev pub CachedWhere : (List ℕ → Bool) → ℕ → ℤ → List Life → Type 0
+CachedWhere cached sender uid lives =
+    (m : Life) → find (λ l. is_living l && has_publisher sender uid (topic_of l)) lives ≡ Some m
+    → cached m.name ≡ is_cached m.props
+
 -- a put that counts
-pub client-put : (n : ℕ) (a b : Account) (conn : ℕ) (wish : List ℕ → Wanted) (since now : List ℕ → ℕ)
+pub client-put : (n : ℕ) (a b : Account) (conn : ℕ) (wish : List ℕ → Wanted) (since now : Bool → List ℕ → ℕ)
     (lives : List Life)
     → Scene n a b since lives → SameSince wish since now → (k : ℕ) → k < first_meta
     → (sender : ℕ) (uid : ℤ) (time : ℕ) (value : Value) → put_cause (topics lives) sender uid time value
     ≡ None
-    → run_at k (change_ops (n + 1) wish (put_changes (topics lives) sender uid time value))
+    → (cached : List ℕ → Bool) → CachedWhere cached sender uid lives
+    → run_at k (change_ops (n + 1) cached wish (put_changes (topics lives) sender uid time value))
     (client_at a conn wish since k lives)
     ≡ client_at b conn wish now k
     (at_living (has_publisher sender uid)
     (with_a_put (record { place = n + 1; time = time; value = value })) lives)
-client-put n a b conn wish since now lives scene same k low sender uid time value counts =
+client-put n a b conn wish since now lives scene same k low sender uid time value counts cached flags =
     by (find passes lives) refl
   where
     test : Topic → Bool
@@ -212,7 +224,7 @@ client-put n a b conn wish since now lives scene same k low sender uid time valu
     p = record { place = n + 1; time = time; value = value }
 
     ops : Option Life → List Op
-    ops o = change_ops (n + 1) wish (told_by (put_change time value) (option_map topic_of o))
+    ops o = change_ops (n + 1) cached wish (if_found (put_change time value) (option_map topic_of o))
 
     Goal : List Op → Type 0
     Goal ops =
@@ -232,23 +244,25 @@ client-put n a b conn wish since now lives scene same k low sender uid time valu
         counts-newer sender uid time value (topic_of m)
         (ap (λ o. put_cause_at sender uid time value o) (sym first) ∙ counts) in
         let id : m.id ≡ k = grind (arith, nat_tests) in
-        let low_since = scene.since_low m.name in
+        let low_since = scene.since_low (is_cached m.props) m.name in
+        let before : Mark = topic_mark a conn (wish m.name) (since_of since m) m in
         ap (λ x. run_at k (ops (Some m)) (keep_opt x)) (living-mark a conn wish since m living)
-        ∙ step-kept k (change_op (n + 1) wish (change.Changed (pos m.id) m.name time value))
-        (topic_mark a conn (wish m.name) (since m.name) m) (number-id m.id k low e) id refl
+        ∙ step-kept k (change_op (n + 1) cached wish (change.Changed (pos m.id) m.name time value))
+        before (number-id m.id k low e) id refl
+        ∙ ap (λ c. keep_opt (noted_value (waiting_put p) c (wish m.name) before)) (flags m found)
         ∙ ap keep_opt
-        (sym (mark-put a conn (wish m.name) (since m.name) m p (scene.next_low m.id) (omega arith)
-        (taken-put p m newer)
-        (place-by-before n (since m.name) (taken_of m) (before-taken (n + 1) m.puts placed.puts_before))
+        (sym (mark-put a conn (wish m.name) (since_of since m) m p (scene.next_low m.id) (omega arith)
+        (since-put p m newer)
+        (place-by-before n (since_of since m) (taken_since_turn m) (before-since (n + 1) m placed.puts_before))
         placed.puts_before)
-        ∙ sym (mark-same n a b scene.agree conn (wish m.name) (since m.name) (now m.name) (same m.name)
-        (with_a_put p m) placed.settings_rise m.pubs m.props (p ∷ m.puts) refl)
+        ∙ sym (mark-same n a b scene.agree conn (wish m.name) (since_of since m) (since_of now m)
+        (with_a_put p m) (same (is_cached m.props) m.name) placed.settings_rise m.pubs (p ∷ m.puts) refl)
         ∙ sym (living-mark b conn wish now (with_a_put p m) living))
 
     by : (o : Option Life) → find passes lives ≡ o
-        → Goal (change_ops (n + 1) wish (put_changes (topics lives) sender uid time value))
+        → Goal (change_ops (n + 1) cached wish (put_changes (topics lives) sender uid time value))
     by o found =
-        subst (λ t. Goal (change_ops (n + 1) wish (told_by (put_change time value) t)))
+        subst (λ t. Goal (change_ops (n + 1) cached wish (if_found (put_change time value) t)))
         (sym (find-topics test lives ∙ ap (λ o. option_map topic_of o) found)) (at o found)
       where
         at : (o : Option Life) → find passes lives ≡ o → Goal (ops o)
@@ -259,7 +273,7 @@ client-put n a b conn wish since now lives scene same k low sender uid time valu
             (λ e. (other-id m.id k e, tt)) (here m found)
 
 -- a put that is older leaves what is kept
-pub client-older : (n : ℕ) (a b : Account) (conn : ℕ) (wish : List ℕ → Wanted) (since now : List ℕ → ℕ)
+pub client-older : (n : ℕ) (a b : Account) (conn : ℕ) (wish : List ℕ → Wanted) (since now : Bool → List ℕ → ℕ)
     (lives : List Life)
     → Scene n a b since lives → SameSince wish since now → (k : ℕ)
     → (sender : ℕ) (uid : ℤ) (time : ℕ) (value : Value) → put_cause (topics lives) sender uid time value
@@ -286,8 +300,8 @@ client-older n a b conn wish since now lives scene same k sender uid time value 
         let old = refused-older sender uid time value (topic_of m)
         (ap (λ o. put_cause_at sender uid time value o) (sym first) ∙ older) in
         ap keep_opt
-        (sym (client-same n a b conn wish since now scene.agree same m placed m.pubs m.props
-        (p ∷ m.puts) (taken-older p m old)))
+        (sym (client-same n a b conn wish since now scene.agree same m placed m.pubs
+        (p ∷ m.puts) (since-older p m old)))
 
     by : (o : Option Life) → find passes lives ≡ o → client_at a conn wish since k lives
         ≡ client_at b conn wish now k (at_first passes (with_a_put p) lives)
@@ -299,64 +313,63 @@ client-older n a b conn wish since now lives scene same k sender uid time value 
 -- ---- ends
 
 -- the change by which an outbox is told an end
-abbrev pub end_op : ℕ → (List ℕ → Wanted) → Life → Op
-end_op place wish l = change_op place wish (change.Ended (pos l.id) l.name)
+abbrev pub end_op : ℕ → Life → Op
+end_op place l = record { id = id_of (pos l.id); name = l.name; f = ended place }
 
 -- the ends that are told of a life at a place, where it doesn't live on
-abbrev pub end_ops : ℕ → (List ℕ → Wanted) → Life → List Op
-end_ops place wish l = cond (lives_on (topic_of l)) [] (end_op place wish l ∷ [])
+abbrev pub end_ops : ℕ → Life → List Op
+end_ops place l = cond (lives_on (topic_of l)) [] (end_op place l ∷ [])
 
-pub ends-are : (place : ℕ) (wish : List ℕ → Wanted) (l : Life) → change_ops place wish (end_of (topic_of l))
-    ≡ end_ops place wish l
-ends-are place wish l = by (lives_on (topic_of l))
+pub ends-are : (place : ℕ) (cached : List ℕ → Bool) (wish : List ℕ → Wanted) (l : Life)
+    → change_ops place cached wish (end_of (topic_of l)) ≡ end_ops place l
+ends-are place cached wish l = by (lives_on (topic_of l))
   where
-    by : (b : Bool) → change_ops place wish (cond b [] (change.Ended (pos l.id) l.name ∷ []))
-        ≡ cond b [] (end_op place wish l ∷ [])
+    by : (b : Bool) → change_ops place cached wish (cond b [] (change.Ended (pos l.id) l.name ∷ []))
+        ≡ cond b [] (end_op place l ∷ [])
     by true = refl
     by false = refl
 
 -- a life that ends unless it lives on, where its mark before the end is known
-pub client-ended : (n : ℕ) (a b : Account) (conn : ℕ) (wish : List ℕ → Wanted) (now : List ℕ → ℕ) (k : ℕ)
+pub client-ended : (n : ℕ) (a b : Account) (conn : ℕ) (wish : List ℕ → Wanted) (now : Bool → List ℕ → ℕ) (k : ℕ)
     → k < first_meta
     → (m : Life) (x : Mark) → (m.id == k) ≡ true → is_living m ≡ true
-    → x ≡ topic_mark b conn (wish m.name) (now m.name) m
+    → x ≡ topic_mark b conn (wish m.name) (since_of now m) m
     → is_in b.given (end_key m.id (n + 1)) ≡ false
-    → run_at k (end_ops (n + 1) wish m) (keep_opt x)
+    → run_at k (end_ops (n + 1) m) (keep_opt x)
     ≡ keep_opt (client_mark b conn wish now (or_ended (n + 1) m))
 client-ended n a b conn wish now k low m x e living same new = by (lives_on (topic_of m))
   where
     over : Life
     over = record m { over = Some (n + 1) }
 
-    by : (on : Bool) → run_at k (cond on [] (end_op (n + 1) wish m ∷ [])) (keep_opt x)
+    by : (on : Bool) → run_at k (cond on [] (end_op (n + 1) m ∷ [])) (keep_opt x)
         ≡ keep_opt (client_mark b conn wish now (cond on m over))
     by true = ap keep_opt (same ∙ sym (living-mark b conn wish now m living))
     by false =
         let id : m.id ≡ k = grind (arith, nat_tests) in
-        ap (λ x. run_at k (end_op (n + 1) wish m ∷ []) (keep_opt x)) same
-        ∙ step-kept k (end_op (n + 1) wish m) (topic_mark b conn (wish m.name) (now m.name) m)
+        ap (λ x. run_at k (end_op (n + 1) m ∷ []) (keep_opt x)) same
+        ∙ step-kept k (end_op (n + 1) m) (topic_mark b conn (wish m.name) (since_of now m) m)
         (number-id m.id k low e) id refl
         ∙ ap keep_opt
-        (sym (mark-ended b b refl conn (wish m.name) (now m.name) m over (n + 1) refl refl refl new))
+        (sym (mark-ended b b refl conn (wish m.name) (since_of now m) m over (n + 1) refl refl refl new))
 
-pub none-ended : (place : ℕ) (wish : List ℕ → Wanted) (k : ℕ) (m : Life) → (m.id == k) ≡ false
-    → NoneAt k (end_ops place wish m)
-none-ended place wish k m e = by (lives_on (topic_of m))
+pub none-ended : (place : ℕ) (k : ℕ) (m : Life) → (m.id == k) ≡ false → NoneAt k (end_ops place m)
+none-ended place k m e = by (lives_on (topic_of m))
   where
-    by : (on : Bool) → NoneAt k (cond on [] (end_op place wish m ∷ []))
+    by : (on : Bool) → NoneAt k (cond on [] (end_op place m ∷ []))
     by true = tt
     by false = (other-id m.id k e, tt)
 
 -- a publisher goes
 pub client-unpublished : (n : ℕ) (a b : Account) (conn : ℕ) (wish : List ℕ → Wanted)
-    (since now : List ℕ → ℕ) (lives : List Life)
+    (since now : Bool → List ℕ → ℕ) (lives : List Life)
     → Scene n a b since lives → SameSince wish since now → (k : ℕ) → k < first_meta
-    → (sender : ℕ) (uid : ℤ)
-    → run_at k (change_ops (n + 1) wish (unpublish_changes (topics lives) sender uid))
+    → (sender : ℕ) (uid : ℤ) (cached : List ℕ → Bool)
+    → run_at k (change_ops (n + 1) cached wish (unpublish_changes (topics lives) sender uid))
     (client_at a conn wish since k lives)
     ≡ client_at b conn wish now k
     (at_living (has_publisher sender uid) (λ l. or_ended (n + 1) (without_publisher sender uid l)) lives)
-client-unpublished n a b conn wish since now lives scene same k low sender uid = by (find passes lives) refl
+client-unpublished n a b conn wish since now lives scene same k low sender uid cached = by (find passes lives) refl
   where
     passes : Life → Bool
     passes l = is_living l && has_publisher sender uid (topic_of l)
@@ -370,7 +383,7 @@ client-unpublished n a b conn wish since now lives scene same k low sender uid =
         ≡ client_at b conn wish now k (at_first passes (λ l. or_ended (n + 1) (left l)) lives)
 
     here : (m : Life) → find passes lives ≡ Some m → (m.id == k) ≡ true
-        → run_at k (end_ops (n + 1) wish (left m)) (keep_opt (client_mark a conn wish since m))
+        → run_at k (end_ops (n + 1) (left m)) (keep_opt (client_mark a conn wish since m))
         ≡ keep_opt (client_mark b conn wish now (or_ended (n + 1) (left m)))
     here m found e =
         let living : is_living m ≡ true =
@@ -379,26 +392,26 @@ client-unpublished n a b conn wish since now lives scene same k low sender uid =
         let placed : IsPlaced n m = placed-find passes n lives m scene.placed found in
         client-ended n a b conn wish now k low (left m) (client_mark a conn wish since m) e living
         (living-mark a conn wish since m living
-        ∙ sym (mark-same n a b scene.agree conn (wish m.name) (since m.name) (now m.name)
-        (same m.name) m placed.settings_rise (left m).pubs m.props m.puts refl))
+        ∙ sym (mark-same n a b scene.agree conn (wish m.name) (since_of since m) (since_of now m) m
+        (same (is_cached m.props) m.name) placed.settings_rise (left m).pubs m.puts refl))
         (ap (λ g. is_in g (end_key m.id (n + 1))) scene.agree.given_are
         ∙ scene.not_given (end_key m.id (n + 1)) refl)
 
     at : (o : Option Life) → find passes lives ≡ o
-        → Goal (change_ops (n + 1) wish
-        (told_by (λ t. end_of (table.without_publisher sender uid t)) (option_map topic_of o)))
+        → Goal (change_ops (n + 1) cached wish
+        (if_found (λ t. end_of (table.without_publisher sender uid t)) (option_map topic_of o)))
     at None found =
         client-none n a b conn wish since now lives scene same k passes (λ l. or_ended (n + 1) (left l)) found
     at (Some m) found =
-        subst Goal (sym (ends-are (n + 1) wish (left m)))
+        subst Goal (sym (ends-are (n + 1) cached wish (left m)))
         (client-found n a b conn wish since now lives scene same k passes (λ l. or_ended (n + 1) (left l))
         (λ l. id-or_ended (n + 1) (left l)) m found
-        (end_ops (n + 1) wish (left m)) (none-ended (n + 1) wish k (left m)) (here m found))
+        (end_ops (n + 1) (left m)) (none-ended (n + 1) k (left m)) (here m found))
 
     by : (o : Option Life) → find passes lives ≡ o
-        → Goal (change_ops (n + 1) wish (unpublish_changes (topics lives) sender uid))
+        → Goal (change_ops (n + 1) cached wish (unpublish_changes (topics lives) sender uid))
     by o found =
         subst (λ t. Goal
-        (change_ops (n + 1) wish (told_by (λ t. end_of (table.without_publisher sender uid t)) t)))
+        (change_ops (n + 1) cached wish (if_found (λ t. end_of (table.without_publisher sender uid t)) t)))
         (sym (find-topics (has_publisher sender uid) lives ∙ ap (λ o. option_map topic_of o) found))
         (at o found)

@@ -5,6 +5,7 @@ use Rattle.std.specs.Prelude.{option_map}
 use Rattle.std.specs.List.{filter_map, cons_option}
 use Rattle.std.proofs.lemmas.Bool.Decides.{nat_tests}
 use Rattle.std.proofs.lemmas.Option.{none-some, same_Some}
+use Rattle.nt_topics.specs.Properties.{is_cached}
 use Rattle.nt_subs.specs.declared.wish.Wanted.{Wanted}
 use Rattle.nt_rules.specs.Limits.{first_meta}
 use Rattle.nt_rules.specs.declared.topic.Topic.{Topic}
@@ -16,17 +17,18 @@ use Rattle.nt_rules.specs.outbox.Keys.{end_key}
 use Rattle.nt_rules.specs.outbox.Marks.{placed, rewanted}
 use Rattle.nt_rules.specs.declared.taken.Taken.{Taken}
 use Rattle.nt_rules.specs.history.Lives.{Life, is_living, topic_of, topics, held_of, without_conn, closed_for}
-use Rattle.nt_rules.specs.history.Owed.{Account, life_at, is_all}
-use Rattle.nt_rules.specs.history.Marks.{topic_mark, end_mark, held_place, kept_put}
+use Rattle.nt_rules.specs.history.Owed.{Account, life_at}
+use Rattle.nt_rules.specs.history.Marks.{topic_mark, end_mark, held_place, waiting_put}
 use Rattle.nt_rules.specs.history.State.{taken_at}
 use Rattle.nt_laws.proofs.histories.Facts.{id-closed_for, IsPlaced, placed-find}
 use Rattle.nt_laws.proofs.topics.ItemFacts.{map-both}
 use Rattle.nt_laws.proofs.marks.MarksById.{keep_opt, or_fresh, kept_of, AreRising}
 use Rattle.nt_laws.proofs.outboxes.OutboxCalls.{Op, is_at, step_at, run_at, change_op, change_ops, rewanted_op}
-use Rattle.nt_laws.proofs.marks.MarkLaws.{end-same, mark-rewant, mark-ended, held_placed}
+use Rattle.nt_laws.proofs.marks.MarkLaws.{counts, end-same, mark-ended}
+use Rattle.nt_laws.proofs.marks.RewantedMarks.{mark-rewant, held_placed}
 use Rattle.nt_laws.proofs.topics.FoundLives.{rising-numbered, life-above, life-id, life-map}
-use Rattle.nt_laws.proofs.marks.ClientMarksById.{client_mark, client_at, Scene, SameSince, step-kept, number-id}
-use Rattle.nt_laws.proofs.marks.ClientMarksById.{other-id, client-same, living-mark, end_op}
+use Rattle.nt_laws.proofs.marks.ClientMarksById.{since_of, client_mark, client_at, Scene, SameSince, step-kept}
+use Rattle.nt_laws.proofs.marks.ClientMarksById.{number-id, other-id, client-same, living-mark, end_op}
 
 -- ---- a call for each living topic
 
@@ -158,13 +160,13 @@ held-placed k lives l rising at living =
         ∙ ap place_of (held-place-is l ∙ ap (λ b. cond b (held_put l.id (held_of l)) None) living)
 
     by : (h : Option Put) → option_map (placed (place_of (held_put l.id h))) (option_map timed h)
-        ≡ option_map kept_put h
+        ≡ option_map waiting_put h
     by None = refl
     by (Some p) = on (ltb 0 p.place) refl
       where
         on : (b : Bool) → ltb 0 p.place ≡ b
             → Some (placed (place_of (cond b (Some (record { topic = l.id; place = p.place })) None))
-            (timed p)) ≡ Some (kept_put p)
+            (timed p)) ≡ Some (waiting_put p)
         on true e = refl
         on false e = let zero : 0 ≡ p.place =
             grind (arith, nat_tests) in ap (λ n. Some (placed n (timed p))) zero
@@ -176,8 +178,9 @@ filter-all [] = refl
 filter-all (x ∷ xs) = ap (λ ys. x ∷ ys) (filter-all xs)
 
 pub client-rewanted : (n : ℕ) (a b : Account) (conn : ℕ) (old wish : List ℕ → Wanted)
-    (since now : List ℕ → ℕ) (lives : List Life)
-    → Scene n a b since lives → ((name : List ℕ) → now name ≡ cond (is_all (old name)) (since name) (n + 1))
+    (since now : Bool → List ℕ → ℕ) (lives : List Life)
+    → Scene n a b since lives
+    → ((cached : Bool) (name : List ℕ) → now cached name ≡ cond (counts cached (old name)) (since cached name) (n + 1))
     → (k : ℕ)
     → run_at k (map (rewanted_op (filter_map held_place lives) old wish) (topics lives))
     (client_at a conn old since k lives)
@@ -197,22 +200,23 @@ client-rewanted n a b conn old wish since now lives scene turns k =
     here : (l : Life) → life_at k lives ≡ Some l → (living : Bool) → is_living l ≡ living
         → cond (living && true)
         (step_at k (op (topic_of l))
-        (keep_opt (cond living (topic_mark a conn (old l.name) (since l.name) l) (end_mark a l)))) (keep_opt
-        (cond living (topic_mark a conn (old l.name) (since l.name) l) (end_mark a l)))
-        ≡ keep_opt (cond living (topic_mark b conn (wish l.name) (now l.name) l) (end_mark b l))
+        (keep_opt (cond living (topic_mark a conn (old l.name) (since_of since l) l) (end_mark a l)))) (keep_opt
+        (cond living (topic_mark a conn (old l.name) (since_of since l) l) (end_mark a l)))
+        ≡ keep_opt (cond living (topic_mark b conn (wish l.name) (since_of now l) l) (end_mark b l))
     here l at false e = ap keep_opt (sym (end-same a b scene.agree.given_are l l.pubs l.props l.puts))
     here l at true e =
         let placed : IsPlaced n l = placed-find (λ l. l.id == k) n lives l scene.placed at in
         let same : (l.id == k) ≡ true = life-id k lives l at in
         let id : l.id ≡ k = grind (arith, nat_tests) in
         let back : (k == l.id) ≡ true = grind (arith, nat_tests) in
-        step-kept k (op (topic_of l)) (topic_mark a conn (old l.name) (since l.name) l) back id refl
+        step-kept k (op (topic_of l)) (topic_mark a conn (old l.name) (since_of since l) l) back id refl
         ∙ ap (λ h. keep_opt
-        (rewanted h (old l.name) (wish l.name) (topic_mark a conn (old l.name) (since l.name) l)))
+        (rewanted (is_cached l.props) h (old l.name) (wish l.name)
+        (topic_mark a conn (old l.name) (since_of since l) l)))
         (held-placed k lives l rising at e)
         ∙ ap keep_opt
-        (sym (mark-rewant n a b scene.agree conn (old l.name) (wish l.name) (since l.name) (now l.name)
-        (turns l.name) l placed.settings_rise placed.puts_before placed.puts_fall))
+        (sym (mark-rewant n a b scene.agree conn (old l.name) (wish l.name) (since_of since l) (since_of now l) l
+        (turns (is_cached l.props) l.name) placed.settings_rise placed.puts_before placed.puts_fall))
 
     by : (o : Option Life) → life_at k lives ≡ o
         → each_step k op (λ t. true) (kept_of (client_mark a conn old since) o) o
@@ -222,15 +226,16 @@ client-rewanted n a b conn old wish since now lives scene turns k =
 
 -- ---- the end of a connection
 
-pub client-closed : (n : ℕ) (a b : Account) (conn : ℕ) (wish : List ℕ → Wanted) (since now : List ℕ → ℕ)
+pub client-closed : (n : ℕ) (a b : Account) (conn : ℕ) (wish : List ℕ → Wanted) (since now : Bool → List ℕ → ℕ)
     (lives : List Life)
     → Scene n a b since lives → SameSince wish since now → (k : ℕ) → k < first_meta → (sender : ℕ)
-    → run_at k (change_ops (n + 1) wish (drop_changes (topics lives) sender))
+    → (cached : List ℕ → Bool)
+    → run_at k (change_ops (n + 1) cached wish (drop_changes (topics lives) sender))
     (client_at a conn wish since k lives)
     ≡ client_at b conn wish now k (map (closed_for (n + 1) sender) lives)
-client-closed n a b conn wish since now lives scene same k low sender =
+client-closed n a b conn wish since now lives scene same k low sender cached =
     ap (λ ops. run_at k ops (client_at a conn wish since k lives))
-    (map-both ended (change_op (n + 1) wish) (filter ends (topics lives)))
+    (map-both ended (change_op (n + 1) cached wish) (filter ends (topics lives)))
     ∙ run-each k op ends (λ t e. other-id t.id k e) lives (rising-numbered 1 lives scene.numbered)
     (client_at a conn wish since k lives)
     ∙ by (life_at k lives) refl
@@ -238,7 +243,7 @@ client-closed n a b conn wish since now lives scene same k low sender =
     (life-map (closed_for (n + 1) sender) (id-closed_for (n + 1) sender) k lives))
   where
     op : Topic → Op
-    op t = change_op (n + 1) wish (ended t)
+    op t = change_op (n + 1) cached wish (ended t)
 
     ends : Topic → Bool
     ends t = not (outlives sender t)
@@ -252,7 +257,7 @@ client-closed n a b conn wish since now lives scene same k low sender =
         let placed : IsPlaced n l = placed-find (λ l. l.id == k) n lives l scene.placed at in
         ap keep_opt
         (sym (client-same n a b conn wish since now scene.agree same l placed
-        (gone l).pubs l.props l.puts refl))
+        (gone l).pubs l.puts refl))
 
     here : (l : Life) → life_at k lives ≡ Some l → (living : Bool) → is_living l ≡ living → (has on : Bool)
         → cond (living && not (not has || on))
@@ -268,10 +273,10 @@ client-closed n a b conn wish since now lives scene same k low sender =
         let same : (l.id == k) ≡ true = life-id k lives l at in
         let id : l.id ≡ k = grind (arith, nat_tests) in
         ap (λ x. step_at k (op (topic_of l)) (keep_opt x)) (living-mark a conn wish since l e)
-        ∙ step-kept k (end_op (n + 1) wish l) (topic_mark a conn (wish l.name) (since l.name) l)
+        ∙ step-kept k (end_op (n + 1) l) (topic_mark a conn (wish l.name) (since_of since l) l)
         (number-id l.id k low same) id refl
         ∙ ap keep_opt
-        (sym (mark-ended a b scene.agree.given_are conn (wish l.name) (since l.name) l
+        (sym (mark-ended a b scene.agree.given_are conn (wish l.name) (since_of since l) l
         (record (gone l) { over = Some (n + 1) }) (n + 1) refl refl refl
         (scene.not_given (end_key l.id (n + 1)) refl)))
 

@@ -1,34 +1,34 @@
 -- The keys that were given stand at places of the past, and name lives of the history.
-use Rattle.std.proofs.Common.{◌≡◌, ◌<◌, ◌≤◌, ◌+◌, ◌==◌, ◌&&◌, ◌||◌, not, ℕ, suc, Bool, true, false, cond, leb, max}
-use Rattle.std.proofs.Common.{List, [], ◌∷◌, Option, Some, None, map, filter, length, codes, refl, sym, ◌∙◌, ap, subst}
-use Rattle.std.proofs.Common.{arith}
+use Rattle.std.proofs.Common.{◌≡◌, ◌<◌, ◌≤◌, ◌+◌, ◌==◌, ◌&&◌, ◌||◌, not, ℕ, suc, Bool, true, false, cond, leb, ltb}
+use Rattle.std.proofs.Common.{max, List, [], ◌∷◌, Option, Some, None, map, filter, reverse, length, codes, refl, sym}
+use Rattle.std.proofs.Common.{◌∙◌, ap, subst, arith}
 use Rattle.std.specs.Prelude.{is_none}
 use Rattle.std.specs.List.{AllByRecursion, list_any}
 use Rattle.std.proofs.lemmas.Bool.Decides.{nat_tests}
+use Rattle.nt_topics.specs.Properties.{is_cached}
 use Rattle.nt_subs.specs.declared.wish.Wanted.{Wanted}
 use Rattle.nt_subs.specs.declared.wish.Wanted.TheVariants.{No, TopicOnly, Newest, All}
 use Rattle.nt_rules.specs.topics.Puts.{Put}
 use Rattle.nt_rules.specs.outbox.Keys.{Key, Of_publish, Of_topic, is_kind, is_in, end_key, publish_key, setting_key}
 use Rattle.nt_rules.specs.outbox.Keys.{topic_key, value_key, is_value, announces, next_value}
-use Rattle.nt_rules.specs.outbox.Marks.{is_empty, is_wish, option_items}
+use Rattle.nt_rules.specs.outbox.Marks.{is_empty, is_wish, is_valued, option_items}
 use Rattle.nt_rules.specs.declared.act.Deed.{Deed}
 use Rattle.nt_rules.specs.declared.act.Deed.TheVariants.{Opened, NotOpened, Said, Drained, Closed, Permitted, NoPermit}
 use Rattle.nt_rules.specs.declared.act.Deed.TheVariants.{Shut}
 use Rattle.nt_rules.specs.declared.act.Entry.{Entry}
-use Rattle.nt_rules.specs.history.Lives.{Life, taken_of}
+use Rattle.nt_rules.specs.history.Lives.{Life, taken_since_turn}
 use Rattle.nt_rules.specs.declared.start.Start.{Start}
 use Rattle.nt_rules.specs.history.Now.{Connection, is_there, is_open_for, now_of}
 use Rattle.nt_rules.specs.history.Metas.{same_bytes, meta_at, metas_now, meta_place, meta_lives, all_lives}
-use Rattle.nt_rules.specs.history.Owed.{Account, is_announced, owed_end_at, owed_publishes, owed_settings, owed_values}
-use Rattle.nt_rules.specs.history.Owed.{newest_from, place_by, end_keys, reply_keys, topic_keys, value_keys}
-use Rattle.nt_rules.specs.history.Owed.{newest_keys, keys_owed, wish_for, wish_on, all_since, owed_by, given_after}
-use Rattle.nt_rules.specs.history.Owed.{account}
+use Rattle.nt_rules.specs.history.Owed.{Account, is_announced, owed_end_at, owed_publishes, owed_settings, owed_cached}
+use Rattle.nt_rules.specs.history.Owed.{owed_uncached, newest_for, newest_from, place_by, end_keys, reply_keys}
+use Rattle.nt_rules.specs.history.Owed.{topic_keys, value_keys, newest_keys, keys_owed, wish_for, wish_on, since_for}
+use Rattle.nt_rules.specs.history.Owed.{owed_by, given_after, account}
 use Rattle.nt_rules.specs.history.Answer.{Legal}
 use Rattle.nt_laws.proofs.histories.Facts.{place-is, AllBefore, IsRising, IsOverBy, IsPlaced, ArePlaced, lives-placed}
-use Rattle.nt_laws.proofs.histories.Facts.{AreOverBy, connections-over}
+use Rattle.nt_laws.proofs.histories.Facts.{before-since, AreOverBy, connections-over}
 use Rattle.nt_laws.proofs.topics.ItemFacts.{each-more, each-both, each-append, each-filter, each-map, each-take}
 use Rattle.nt_laws.proofs.topics.ItemFacts.{each-reverse}
-use Rattle.nt_laws.proofs.topics.TakenPuts.{before-taken}
 use Rattle.nt_laws.proofs.marks.OwnKeys.{OwnKeys, each-owed}
 use Rattle.nt_laws.proofs.metas.MetaRows.{Row, row_of_life, row_of_conn, raised, server_rows, topic_pubs, topic_subs}
 use Rattle.nt_laws.proofs.metas.MetaRows.{client_pubs, client_subs, rows_by, meta_rows, life_of, meta-lives}
@@ -75,6 +75,10 @@ metas-placed start past n le (r ∷ rows) h =
       record {
         puts_before = (omega arith, tt);
         puts_fall = (tt, tt);
+        puts_after = (λ real. absurd (omega arith), tt);
+        turn_by = omega arith;
+        taken_earlier = tt;
+        taken_fall = tt;
         publishings_rise = tt;
         settings_rise = tt;
         is_over_by = h.0;
@@ -163,8 +167,8 @@ module _ (n : ℕ) (rows : List Row) (a : Account) (conn : ℕ) (w : Wanted) (si
       (each-more (λ s. s.place ≤ n) (λ s. IsPast n rows (setting_key l.id s.place))
       (λ s low. record { not_later = low; has_lived = lived }) (owed_settings a l)
       (each-filter (λ s. s.place ≤ n) (λ s. not (is_in a.given (setting_key l.id s.place)))
-      (filter (λ s. list_any (λ place. place == s.place) a.told_of) l.settings)
-      (each-filter (λ s. s.place ≤ n) (λ s. list_any (λ place. place == s.place) a.told_of) l.settings
+      (filter (λ s. list_any (λ place. place == s.place) a.told_settings) l.settings)
+      (each-filter (λ s. s.place ≤ n) (λ s. list_any (λ place. place == s.place) a.told_settings) l.settings
       (each-upto (λ s. s.place) 1 n l.settings placed.settings_rise)))))
 
   news-past : AllByRecursion (IsPast n rows) (topic_keys a conn w l)
@@ -174,29 +178,44 @@ module _ (n : ℕ) (rows : List Row) (a : Account) (conn : ℕ) (w : Wanted) (si
       by true = (record { not_later = omega arith; has_lived = lived }, tt)
       by false = tt
 
-  puts-past : AllByRecursion (λ p. p.place ≤ n) (taken_of l)
-  puts-past = each-before n (taken_of l) (before-taken (n + 1) l.puts placed.puts_before)
+  puts-past : AllByRecursion (λ p. p.place ≤ n) (taken_since_turn l)
+  puts-past = each-before n (taken_since_turn l) (before-since (n + 1) l placed.puts_before)
 
   values-past : AllByRecursion (IsPast n rows) (value_keys a w since l)
-  values-past = by w
+  values-past = by (is_cached l.props)
     where
-      by : (w : Wanted) → AllByRecursion (IsPast n rows) (value_keys a w since l)
-      by No = tt
-      by TopicOnly = tt
-      by Newest = tt
-      by All =
-          each-map (IsPast n rows) (λ p. value_key l.id p.place) (owed_values a All since l)
+      passed : (Put → Bool) → List Put
+      passed test = reverse (filter test (taken_since_turn l))
+
+      keys : List Put → List Key
+      keys ps = map (λ p. value_key l.id p.place) ps
+
+      from : (test : Put → Bool) → AllByRecursion (IsPast n rows) (keys (passed test))
+      from test =
+          each-map (IsPast n rows) (λ p. value_key l.id p.place) (passed test)
           (each-more (λ p. p.place ≤ n) (λ p. IsPast n rows (value_key l.id p.place))
-          (λ p low. record { not_later = low; has_lived = lived }) (owed_values a All since l)
-          (each-reverse (λ p. p.place ≤ n)
-          (filter (λ p. leb (next_value a.given l.id) p.place && leb (place_by since (taken_of l))
-          p.place) (taken_of l))
-          (each-filter (λ p. p.place ≤ n)
-          (λ p. leb (next_value a.given l.id) p.place && leb (place_by since (taken_of l)) p.place)
-          (taken_of l) puts-past)))
+          (λ p low. record { not_later = low; has_lived = lived }) (passed test)
+          (each-reverse (λ p. p.place ≤ n) (filter test (taken_since_turn l))
+          (each-filter (λ p. p.place ≤ n) test (taken_since_turn l) puts-past)))
+
+      cached : (w : Wanted) → AllByRecursion (IsPast n rows) (keys (owed_cached a w since l))
+      cached No = tt
+      cached TopicOnly = tt
+      cached Newest = tt
+      cached All =
+          from (λ p. leb (next_value a.given l.id) p.place && leb (place_by since (taken_since_turn l)) p.place)
+
+      uncached : (b : Bool) → AllByRecursion (IsPast n rows) (keys (cond b (owed_uncached a All since l) []))
+      uncached true = from (λ p. leb (next_value a.given l.id) p.place && ltb since p.place)
+      uncached false = tt
+
+      by : (b : Bool)
+          → AllByRecursion (IsPast n rows) (keys (cond b (owed_cached a w since l) (owed_uncached a w since l)))
+      by true = cached w
+      by false = uncached (is_valued w)
 
   newest-past : AllByRecursion (IsPast n rows) (newest_keys a w l)
-  newest-past = by w
+  newest-past = by (is_cached l.props)
     where
       from : (ps : List Put) → AllByRecursion (λ p. p.place ≤ n) ps
           → AllByRecursion (IsPast n rows)
@@ -209,11 +228,17 @@ module _ (n : ℕ) (rows : List Row) (a : Account) (conn : ℕ) (w : Wanted) (si
           one true = (record { not_later = h.0; has_lived = lived }, tt)
           one false = tt
 
-      by : (w : Wanted) → AllByRecursion (IsPast n rows) (newest_keys a w l)
-      by No = tt
-      by TopicOnly = tt
-      by All = tt
-      by Newest = from (taken_of l) puts-past
+      cached : (w : Wanted)
+          → AllByRecursion (IsPast n rows) (map (value_key l.id) (option_items (newest_for a w l)))
+      cached No = tt
+      cached TopicOnly = tt
+      cached All = tt
+      cached Newest = from (taken_since_turn l) puts-past
+
+      by : (b : Bool)
+          → AllByRecursion (IsPast n rows) (map (value_key l.id) (option_items (cond b (newest_for a w l) None)))
+      by true = cached w
+      by false = tt
 
   own-past : OwnKeys (IsPast n rows) a conn w since l
   own-past =
@@ -253,7 +278,7 @@ owed-past a start past conn legal = by (is_there (now_of start past).connections
     wish l = wish_on (wish_for start past conn) l
 
     since : Life → ℕ
-    since l = all_since start past conn l.name
+    since = since_for start past conn
 
     known : AllByRecursion (λ l. has_row l.id (rows_of (now_of start past)) ≡ true) (all_lives start past)
     known =

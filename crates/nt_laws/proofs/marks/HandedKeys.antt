@@ -12,7 +12,7 @@ use Rattle.nt_rules.specs.outbox.Keys.{is_in, end_key, publish_key, setting_key,
 use Rattle.nt_rules.specs.outbox.Keys.{announces, next_value, is_before, insert_key, in_order}
 use Rattle.nt_rules.specs.outbox.Marks.{is_blank, is_empty, is_wish, without, handed, handed_all, option_items}
 use Rattle.nt_rules.specs.outbox.Marks.{place_from, end_keys, reply_keys, topic_keys, value_keys, newest_keys, keys}
-use Rattle.nt_rules.specs.outbox.Calls.{OutboxState, behind, left, keys_of, handed_keys, drained}
+use Rattle.nt_rules.specs.outbox.Calls.{OutboxState, behind, unless_behind, keys_of, handed_keys, drained}
 
 -- ---- tests on keys
 
@@ -363,9 +363,9 @@ pub left-drained : (n : ℕ) (b : OutboxState) (k : Key) → behind b ≡ None �
     → (is_in (keys_of b) k ≡ true) × (is_in (handed_keys n b) k ≡ false)
 left-drained n b k none h =
     let l = left-keys (handed_keys n b) k b.marks (by (behind (drained n b)) h) in
-    (subst (λ o. is_in (keys (left o b.marks)) k ≡ true) (sym none) l.0, l.1)
+    (subst (λ o. is_in (keys (unless_behind o b.marks)) k ≡ true) (sym none) l.0, l.1)
   where
-    by : (o : Option ℕ) → is_in (keys (left o (handed_all (handed_keys n b) b.marks))) k ≡ true
+    by : (o : Option ℕ) → is_in (keys (unless_behind o (handed_all (handed_keys n b) b.marks))) k ≡ true
         → is_in (keys (handed_all (handed_keys n b) b.marks)) k ≡ true
     by None h = h
     by (Some w) h = absurd (cc)

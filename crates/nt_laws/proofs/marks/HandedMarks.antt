@@ -1,12 +1,13 @@
 -- Keys that are handed leave of each mark what the account after them says.
-use Rattle.std.proofs.Common.{◌≡◌, ◌≤◌, ◌+◌, ◌&&◌, ◌||◌, ◌==◌, ℕ, Bool, true, false, cond, not, leb, max, min, List, []}
-use Rattle.std.proofs.Common.{◌∷◌, ◌++◌, Option, Some, None, option_map, is_some, map, filter, reverse, refl, sym, ◌∙◌}
-use Rattle.std.proofs.Common.{ap, subst, arith, inl, inr, ◌⊎◌, ⊎_elim}
+use Rattle.std.proofs.Common.{◌≡◌, ◌≤◌, ◌+◌, ◌&&◌, ◌||◌, ◌==◌, ℕ, Bool, true, false, cond, not, leb, ltb, max, min}
+use Rattle.std.proofs.Common.{List, [], ◌∷◌, ◌++◌, Option, Some, None, option_map, is_some, map, filter, reverse}
+use Rattle.std.proofs.Common.{refl, sym, ◌∙◌, ap, subst, arith, inl, inr, ◌⊎◌, ⊎_elim}
 use Rattle.std.specs.List.{AllByRecursion, list_any}
 use Rattle.std.proofs.lemmas.Bool.Decides.{nat_tests}
 use Rattle.std.proofs.lemmas.List.{append-nil, reverse-append}
 use Rattle.std.proofs.lemmas.List.Elements.{filter-append}
 use Rattle.std.proofs.lemmas.List.Folds.{list_any-append}
+use Rattle.nt_topics.specs.Properties.{is_cached}
 use Rattle.nt_subs.specs.declared.wish.Wanted.{Wanted}
 use Rattle.nt_subs.specs.declared.wish.Wanted.TheVariants.{No, TopicOnly, Newest, All}
 use Rattle.nt_rules.specs.topics.Puts.{Put}
@@ -16,12 +17,13 @@ use Rattle.nt_rules.specs.declared.waiting.Setting as marked
 use Rattle.nt_rules.specs.declared.waiting.Publish.{Publish}
 use Rattle.nt_rules.specs.outbox.Keys.{Kind, Of_end, Of_publish, Of_setting, Of_topic, Of_value, Key, is_kind, is_key}
 use Rattle.nt_rules.specs.outbox.Keys.{is_in, end_key, publish_key, setting_key, is_value, announces, next_value}
-use Rattle.nt_rules.specs.outbox.Marks.{is_blank, is_meta, fresh, handed, handed_all, without, place_from}
-use Rattle.nt_rules.specs.history.Lives.{Life, is_living, taken_of}
+use Rattle.nt_rules.specs.outbox.Marks.{is_blank, is_meta, is_valued, fresh, handed, handed_all, without, place_from}
+use Rattle.nt_rules.specs.history.Lives.{Life, is_living, taken_since_turn}
 use Rattle.nt_rules.specs.history.Owed.{Account, is_announced, owed_end, owed_end_at, owed_publishes, owed_settings}
-use Rattle.nt_rules.specs.history.Owed.{owed_values, owed_newest, newest_from, place_by}
-use Rattle.nt_rules.specs.history.Marks.{kept_publish, kept_setting, kept_put, topic_mark, meta_mark, end_mark, mark_of}
-use Rattle.nt_rules.specs.history.Marks.{marks_by}
+use Rattle.nt_rules.specs.history.Owed.{owed_cached, owed_uncached, owed_values, owed_newest, newest_for, newest_from}
+use Rattle.nt_rules.specs.history.Owed.{place_by}
+use Rattle.nt_rules.specs.history.Marks.{waiting_publish, waiting_setting, waiting_put, topic_mark, meta_mark}
+use Rattle.nt_rules.specs.history.Marks.{end_mark, mark_of, marks_by}
 use Rattle.nt_laws.proofs.marks.MarksById.{blank-fresh}
 use Rattle.nt_laws.proofs.marks.KeysOwed.{unplaced, mark-id}
 use Rattle.nt_laws.proofs.marks.OwnKeys.{OfLife}
@@ -202,7 +204,7 @@ pub record Fits (a : Account) (conn : ℕ) (wish : Life → Wanted) (since : Lif
     (l : Life) : Type 0 where
   pub if_over : is_living l ≡ false → IsOut l.id ks
   pub if_blank : is_blank (mark_of a conn wish since l) ≡ true → IsOut l.id ks
-  pub if_meta : is_living l ≡ true → is_meta l.id ≡ true → IsReached (next_value ks l.id) (taken_of l)
+  pub if_meta : is_living l ≡ true → is_meta l.id ≡ true → IsReached (next_value ks l.id) (taken_since_turn l)
 
 pub out-of : (id : ℕ) (ks : List Key) → AllByRecursion (OfLife id (λ k. is_kind k.kind Of_end ≡ true)) ks
     → IsOut id ks
@@ -280,31 +282,25 @@ announced-more a ks id =
     list_any-append (announces id) a.given ks
     ∙ ap (λ b. is_announced a id || b) (sym (announces-unplaced id ks))
 
-values-handed : (a : Account) (ks : List Key) (wish : Wanted) (since : ℕ) (l : Life)
-    → owed_values (with_given a ks) wish since l
-    ≡ filter (λ p. leb (next_value ks l.id) p.place) (owed_values a wish since l)
-values-handed a ks No since l = refl
-values-handed a ks TopicOnly since l = refl
-values-handed a ks Newest since l = refl
-values-handed a ks All since l =
-    ap (λ n. reverse (filter (λ (p : Put). leb n p.place && leb low p.place) (taken_of l)))
-    (next-append a.given ks l.id)
+-- of these puts those whose place the keys given reached and another test passes, oldest first
+puts-handed : (given ks : List Key) (id : ℕ) (test : ℕ → Bool) (ps : List Put)
+    → reverse (filter (λ p. leb (next_value (given ++ ks) id) p.place && test p.place) ps)
+    ≡ filter (λ p. leb (next_value ks id) p.place)
+    (reverse (filter (λ p. leb (next_value given id) p.place && test p.place) ps))
+puts-handed given ks id test ps =
+    ap (λ n. reverse (filter (λ (p : Put). leb n p.place && test p.place) ps)) (next-append given ks id)
     ∙ ap reverse
-    (filter-both _ (λ p. leb (next_value ks l.id) p.place)
-    (λ p. leb (next_value a.given l.id) p.place && leb low p.place) (λ p. same p.place (leb low p.place))
-    (taken_of l))
-    ∙ sym (filter-reverse (λ p. leb (next_value ks l.id) p.place)
-    (filter (λ p. leb (next_value a.given l.id) p.place && leb low p.place) (taken_of l)))
+    (filter-both _ (λ p. leb (next_value ks id) p.place)
+    (λ p. leb (next_value given id) p.place && test p.place) (λ p. same p.place (test p.place)) ps)
+    ∙ sym (filter-reverse (λ p. leb (next_value ks id) p.place)
+    (filter (λ p. leb (next_value given id) p.place && test p.place) ps))
   where
-    low : ℕ
-    low = place_by since (taken_of l)
-
     same : (n : ℕ) (c : Bool)
-        → (leb (max (next_value a.given l.id) (next_value ks l.id)) n && c)
-        ≡ ((leb (next_value a.given l.id) n && c) && leb (next_value ks l.id) n)
+        → (leb (max (next_value given id) (next_value ks id)) n && c)
+        ≡ ((leb (next_value given id) n && c) && leb (next_value ks id) n)
     same n c =
-        ap (λ d. d && c) (leb-max (next_value a.given l.id) (next_value ks l.id) n)
-        ∙ swap (leb (next_value a.given l.id) n) (leb (next_value ks l.id) n) c
+        ap (λ d. d && c) (leb-max (next_value given id) (next_value ks id) n)
+        ∙ swap (leb (next_value given id) n) (leb (next_value ks id) n) c
       where
         swap : (x y c : Bool) → ((x && y) && c) ≡ ((x && c) && y)
         swap true true true = refl
@@ -312,6 +308,42 @@ values-handed a ks All since l =
         swap true false true = refl
         swap true false false = refl
         swap false y c = refl
+
+cached-handed : (a : Account) (ks : List Key) (wish : Wanted) (since : ℕ) (l : Life)
+    → owed_cached (with_given a ks) wish since l
+    ≡ filter (λ p. leb (next_value ks l.id) p.place) (owed_cached a wish since l)
+cached-handed a ks No since l = refl
+cached-handed a ks TopicOnly since l = refl
+cached-handed a ks Newest since l = refl
+cached-handed a ks All since l =
+    puts-handed a.given ks l.id (λ place. leb (place_by since (taken_since_turn l)) place) (taken_since_turn l)
+
+uncached-handed : (a : Account) (ks : List Key) (wish : Wanted) (since : ℕ) (l : Life)
+    → owed_uncached (with_given a ks) wish since l
+    ≡ filter (λ p. leb (next_value ks l.id) p.place) (owed_uncached a wish since l)
+uncached-handed a ks wish since l = by (is_valued wish)
+  where
+    after : List Put
+    after = owed_uncached (with_given a ks) All since l
+
+    before : List Put
+    before = owed_uncached a All since l
+
+    by : (b : Bool) → cond b after [] ≡ filter (λ p. leb (next_value ks l.id) p.place) (cond b before [])
+    by true = puts-handed a.given ks l.id (λ place. ltb since place) (taken_since_turn l)
+    by false = refl
+
+values-handed : (a : Account) (ks : List Key) (wish : Wanted) (since : ℕ) (l : Life)
+    → owed_values (with_given a ks) wish since l
+    ≡ filter (λ p. leb (next_value ks l.id) p.place) (owed_values a wish since l)
+values-handed a ks wish since l = by (is_cached l.props)
+  where
+    by : (b : Bool)
+        → cond b (owed_cached (with_given a ks) wish since l) (owed_uncached (with_given a ks) wish since l)
+        ≡ filter (λ p. leb (next_value ks l.id) p.place)
+        (cond b (owed_cached a wish since l) (owed_uncached a wish since l))
+    by true = cached-handed a ks wish since l
+    by false = uncached-handed a ks wish since l
 
 from-handed : (m n : ℕ) (ts : List Put) → newest_from (max m n) ts ≡ place_from n (newest_from m ts)
 from-handed m n [] = refl
@@ -324,12 +356,20 @@ from-handed m n (p ∷ ts) = ap (λ b. cond b (Some p.place) None) (leb-max m n 
 
 newest-handed : (a : Account) (ks : List Key) (wish : Wanted) (l : Life)
     → owed_newest (with_given a ks) wish l ≡ place_from (next_value ks l.id) (owed_newest a wish l)
-newest-handed a ks No l = refl
-newest-handed a ks TopicOnly l = refl
-newest-handed a ks All l = refl
-newest-handed a ks Newest l =
-    ap (λ n. newest_from n (taken_of l)) (next-append a.given ks l.id)
-    ∙ from-handed (next_value a.given l.id) (next_value ks l.id) (taken_of l)
+newest-handed a ks wish l = by (is_cached l.props)
+  where
+    on : (w : Wanted) → newest_for (with_given a ks) w l ≡ place_from (next_value ks l.id) (newest_for a w l)
+    on No = refl
+    on TopicOnly = refl
+    on All = refl
+    on Newest =
+        ap (λ n. newest_from n (taken_since_turn l)) (next-append a.given ks l.id)
+        ∙ from-handed (next_value a.given l.id) (next_value ks l.id) (taken_since_turn l)
+
+    by : (b : Bool) → cond b (newest_for (with_given a ks) wish l) None
+        ≡ place_from (next_value ks l.id) (cond b (newest_for a wish l) None)
+    by true = on wish
+    by false = refl
 
 -- the mark of a life with these parts
 abbrev mark_with : Life → Bool → Option ℕ → List Publish → List marked.Setting → ℕ → Wanted → List Placed
@@ -363,30 +403,30 @@ topic-handed a ks conn wish since l f =
     made l _ _ None None _ _ _ _ _ _ wish _ _ _ _
     (announced-more a ks l.id)
     refl
-    (ap (map kept_publish)
+    (ap (map waiting_publish)
     (filter-both _ (λ p. not (is_in (map unplaced ks) (publish_key l.id p.place)))
     (λ p. not (is_in a.given (publish_key l.id p.place)))
     (λ p. not-in a.given ks (publish_key l.id p.place) refl) (filter (λ p. p.conn == conn) l.publishings))
-    ∙ sym (filter-map (λ p. not (is_in (map unplaced ks) (publish_key l.id p.place))) kept_publish
+    ∙ sym (filter-map (λ p. not (is_in (map unplaced ks) (publish_key l.id p.place))) waiting_publish
     (owed_publishes a conn l)))
-    (ap (map (kept_setting conn))
+    (ap (map (waiting_setting conn))
     (filter-both _ (λ s. not (is_in (map unplaced ks) (setting_key l.id s.place)))
     (λ s. not (is_in a.given (setting_key l.id s.place)))
     (λ s. not-in a.given ks (setting_key l.id s.place) refl)
-    (filter (λ s. list_any (λ place. place == s.place) a.told_of) l.settings))
-    ∙ sym (filter-map (λ s. not (is_in (map unplaced ks) (setting_key l.id s.place))) (kept_setting conn)
+    (filter (λ s. list_any (λ place. place == s.place) a.told_settings) l.settings))
+    ∙ sym (filter-map (λ s. not (is_in (map unplaced ks) (setting_key l.id s.place))) (waiting_setting conn)
     (owed_settings a l)))
     (next-append a.given ks l.id ∙ ap (λ n. max (next_value a.given l.id) n) (sym (next-unplaced l.id f ks)))
-    (ap (map kept_put) (values-handed a ks wish since l)
-    ∙ ap (λ n. map kept_put (filter (λ (p : Put). leb n p.place) (owed_values a wish since l)))
+    (ap (map waiting_put) (values-handed a ks wish since l)
+    ∙ ap (λ n. map waiting_put (filter (λ (p : Put). leb n p.place) (owed_values a wish since l)))
     (sym (next-unplaced l.id f ks))
-    ∙ sym (filter-map (λ p. leb (next_value (map unplaced ks) l.id) p.place) kept_put
+    ∙ sym (filter-map (λ p. leb (next_value (map unplaced ks) l.id) p.place) waiting_put
     (owed_values a wish since l)))
     (newest-handed a ks wish l
     ∙ ap (λ n. place_from n (owed_newest a wish l)) (sym (next-unplaced l.id f ks)))
 
 meta-handed : (a : Account) (ks : List Key) (wish : Wanted) (l : Life) → is_meta l.id ≡ true
-    → IsReached (next_value ks l.id) (taken_of l)
+    → IsReached (next_value ks l.id) (taken_since_turn l)
     → meta_mark (with_given a ks) wish l ≡ handed (map unplaced ks) (meta_mark a wish l)
 meta-handed a ks wish l f reached =
     made l _ _ None None [] [] [] [] _ _ wish [] [] _ _ (announced-more a ks l.id) refl refl refl next refl
@@ -396,7 +436,7 @@ meta-handed a ks wish l f reached =
     n = next_value ks l.id
 
     ts : List Put
-    ts = taken_of l
+    ts = taken_since_turn l
 
     past : ℕ
     past = next_value a.given l.id
@@ -433,12 +473,12 @@ meta-handed a ks wish l f reached =
         one_next None e = omega arith
         one_next (Some p) e = omega arith
 
-    newest : (w : Wanted) → option_map (λ place. 0) (owed_newest (with_given a ks) w l)
-        ≡ place_from (next_value (map unplaced ks) l.id) (option_map (λ place. 0) (owed_newest a w l))
-    newest No = refl
-    newest TopicOnly = refl
-    newest All = refl
-    newest Newest =
+    on : (w : Wanted) → option_map (λ place. 0) (newest_for (with_given a ks) w l)
+        ≡ place_from (next_value (map unplaced ks) l.id) (option_map (λ place. 0) (newest_for a w l))
+    on No = refl
+    on TopicOnly = refl
+    on All = refl
+    on Newest =
         ap (option_map (λ place. 0)) later
         ∙ ⊎_elim
         (λ e. ap (option_map (λ place. 0)) (same e) ∙ zero_newest (newest_from past ts) e)
@@ -458,6 +498,16 @@ meta-handed a ks wish l f reached =
         one_newest (Some p) e =
             let high : leb (min 1 n) 0 ≡ false = grind (arith, nat_tests) in
             sym (ap (λ b. cond b (Some 0) None) high)
+
+    newest : (w : Wanted) → option_map (λ place. 0) (owed_newest (with_given a ks) w l)
+        ≡ place_from (next_value (map unplaced ks) l.id) (option_map (λ place. 0) (owed_newest a w l))
+    newest w = by (is_cached l.props)
+      where
+        by : (b : Bool) → option_map (λ place. 0) (cond b (newest_for (with_given a ks) w l) None)
+            ≡ place_from (next_value (map unplaced ks) l.id)
+            (option_map (λ place. 0) (cond b (newest_for a w l) None))
+        by true = on w
+        by false = refl
 
 end-handed : (a : Account) (ks : List Key) (l : Life) → IsOut l.id ks → IsOut l.id (map unplaced ks)
     → end_mark (with_given a ks) l ≡ handed (map unplaced ks) (end_mark a l)

@@ -6,6 +6,7 @@ use Rattle.std.specs.List.{AllByRecursion}
 use Rattle.std.proofs.lemmas.List.{length-map, map-append}
 use Rattle.serde_json.specs.Written.{compact_text}
 use Rattle.nt_values.specs.Types.{size_of}
+use Rattle.nt_topics.specs.Properties.{is_cached}
 use Rattle.nt_subs.specs.declared.wish.Wanted.{Wanted}
 use Rattle.nt_subs.specs.declared.wish.Wanted.TheVariants.{No, TopicOnly, Newest, All}
 use Rattle.nt_rules.specs.topics.Puts.{Put}
@@ -17,11 +18,12 @@ use Rattle.nt_rules.specs.outbox.Marks.{fresh, is_blank, is_empty, is_wish, is_m
 use Rattle.nt_rules.specs.outbox.Marks.{mark_weight, values_weight}
 use Rattle.nt_rules.specs.history.Lives.{Life, Setting, is_living}
 use Rattle.nt_rules.specs.history.Owed.{Account, is_all, is_announced, owed_end, owed_end_at, owed_publishes}
-use Rattle.nt_rules.specs.history.Owed.{owed_settings, owed_values, owed_newest, end_keys, reply_keys, topic_keys}
+use Rattle.nt_rules.specs.history.Owed.{owed_settings, owed_cached, owed_uncached, owed_values, owed_newest, end_keys}
+use Rattle.nt_rules.specs.history.Owed.{reply_keys, topic_keys}
 use Rattle.nt_rules.specs.history.Owed.{value_keys, newest_keys, keys_owed, settings_weight, puts_weight, living_weight}
 use Rattle.nt_rules.specs.history.Owed.{life_weight, lives_weight}
-use Rattle.nt_rules.specs.history.Marks.{kept_publish, kept_setting, kept_put, topic_mark, meta_mark, end_mark, mark_of}
-use Rattle.nt_rules.specs.history.Marks.{marks_by}
+use Rattle.nt_rules.specs.history.Marks.{waiting_publish, waiting_setting, waiting_put, topic_mark, meta_mark}
+use Rattle.nt_rules.specs.history.Marks.{end_mark, mark_of, marks_by}
 use Rattle.nt_laws.proofs.marks.MarksById.{blank-fresh}
 use Rattle.nt_laws.proofs.topics.ItemFacts.{each-more, each-all, each-append, each-filter, each-map, each-flat}
 use Rattle.nt_laws.proofs.topics.ItemFacts.{each-in_order, map-itself}
@@ -30,10 +32,11 @@ use Rattle.nt_laws.proofs.topics.ItemFacts.{each-in_order, map-itself}
 abbrev pub unplaced : Key → Key
 unplaced k = cond (is_value k && is_meta k.topic) (record k { place = 0 }) k
 
--- a meta topic has no publishings and no settings, and isn't wanted under All
+-- a meta topic has no publishings and no settings, is cached, and isn't wanted under All
 pub record IsOrdinary (wish : Wanted) (l : Life) : Type 0 where
   pub no_publishings : is_meta l.id ≡ true → l.publishings ≡ []
   pub no_settings : is_meta l.id ≡ true → l.settings ≡ []
+  pub cached : is_meta l.id ≡ true → is_cached l.props ≡ true
   pub not_all : is_meta l.id ≡ true → is_all wish ≡ false
 
 abbrev pub AreOrdinary : (Life → Wanted) → List Life → Type 0
@@ -75,15 +78,20 @@ no-end a l e = by l.over e (is_announced a l.id)
     by None e false = refl
     by (Some place) e b = cc
 
--- what isn't wanted under All owes no values under All
-pub no-values : (a : Account) (wish : Wanted) (since : ℕ) (l : Life) → is_all wish ≡ false
+-- a meta topic owes no values one by one
+pub no-values : (a : Account) (wish : Wanted) (since : ℕ) (l : Life) → IsOrdinary wish l → is_meta l.id ≡ true
     → owed_values a wish since l ≡ []
-no-values a No since l e = refl
-no-values a TopicOnly since l e = refl
-no-values a Newest since l e = refl
-no-values a All since l e = cc
+no-values a wish since l h f =
+    ap (λ b. cond b (owed_cached a wish since l) (owed_uncached a wish since l)) (h.cached f)
+    ∙ by wish (h.not_all f)
+  where
+    by : (w : Wanted) → is_all w ≡ false → owed_cached a w since l ≡ []
+    by No e = refl
+    by TopicOnly e = refl
+    by Newest e = refl
+    by All e = cc
 
--- a meta topic owes no answers
+-- nor answers
 pub no-publishes : (a : Account) (conn : ℕ) (wish : Wanted) (l : Life) → IsOrdinary wish l
     → is_meta l.id ≡ true
     → owed_publishes a conn l ≡ []
@@ -134,10 +142,10 @@ life-replies a conn wish since l h =
 
     topic : outbox.reply_keys (topic_mark a conn (wish l) (since l) l) ≡ reply_keys a conn l
     topic =
-        ap (λ ks. ks ++ map (λ s. setting_key l.id s.place) (map (kept_setting conn) (owed_settings a l)))
-        (map-twice (λ p. publish_key l.id p.place) kept_publish (owed_publishes a conn l))
+        ap (λ ks. ks ++ map (λ s. setting_key l.id s.place) (map (waiting_setting conn) (owed_settings a l)))
+        (map-twice (λ p. publish_key l.id p.place) waiting_publish (owed_publishes a conn l))
         ∙ ap (λ ks. map (λ p. publish_key l.id p.place) (owed_publishes a conn l) ++ ks)
-        (map-twice (λ s. setting_key l.id s.place) (kept_setting conn) (owed_settings a l))
+        (map-twice (λ s. setting_key l.id s.place) (waiting_setting conn) (owed_settings a l))
 
 pub life-topics : (a : Account) (conn : ℕ) (wish : Life → Wanted) (since : Life → ℕ) (l : Life)
     → IsOrdinary (wish l) l
@@ -147,8 +155,8 @@ life-topics a conn wish since l h =
     (λ e. sym (ap (λ b. cond b (topic_keys a conn (wish l) l) []) e))
     (λ e f. same [] (sym (ap (λ ps. is_empty ps) (no-publishes a conn (wish l) l h f)))
     ∙ sym (ap (λ b. cond b (topic_keys a conn (wish l) l) []) e))
-    (λ e f. same (map kept_publish (owed_publishes a conn l))
-    (empty-map kept_publish (owed_publishes a conn l))
+    (λ e f. same (map waiting_publish (owed_publishes a conn l))
+    (empty-map waiting_publish (owed_publishes a conn l))
     ∙ sym (ap (λ b. cond b (topic_keys a conn (wish l) l) []) e))
   where
     same : (ps : List Publish) → is_empty ps ≡ is_empty (owed_publishes a conn l)
@@ -164,8 +172,8 @@ life-values a conn wish since l h =
     (λ e. sym (ap (λ b. cond b (value_keys a (wish l) (since l) l) []) e))
     (λ e f. sym
     (ap (λ b. cond b (value_keys a (wish l) (since l) l) []) e
-    ∙ ap (λ ps. map (λ p. value_key l.id p.place) ps) (no-values a (wish l) (since l) l (h.not_all f))))
-    (λ e f. map-twice (λ p. value_key l.id p.place) kept_put (owed_values a (wish l) (since l) l)
+    ∙ ap (λ ps. map (λ p. value_key l.id p.place) ps) (no-values a (wish l) (since l) l h f)))
+    (λ e f. map-twice (λ p. value_key l.id p.place) waiting_put (owed_values a (wish l) (since l) l)
     ∙ sym (ap (λ b. cond b (value_keys a (wish l) (since l) l) []) e))
 
 pub life-newest : (a : Account) (conn : ℕ) (wish : Life → Wanted) (since : Life → ℕ) (l : Life)
@@ -267,7 +275,7 @@ values-stay a wish since l h = by (is_meta l.id) refl
     by : (b : Bool) → is_meta l.id ≡ b → AllByRecursion Stays (value_keys a wish since l)
     by true f =
         subst (λ ps. AllByRecursion Stays (map (λ p. value_key l.id p.place) ps))
-        (sym (no-values a wish since l (h.not_all f))) tt
+        (sym (no-values a wish since l h f)) tt
     by false f =
         each-map Stays (λ p. value_key l.id p.place) (owed_values a wish since l)
         (each-all (λ p. Stays (value_key l.id p.place))
@@ -372,11 +380,11 @@ keys-owed a conn wish since lives h =
 -- ---- weights
 
 weight-settings : (conn : ℕ) (ss : List Setting)
-    → outbox.settings_weight (map (kept_setting conn) ss) ≡ settings_weight ss
+    → outbox.settings_weight (map (waiting_setting conn) ss) ≡ settings_weight ss
 weight-settings conn [] = refl
 weight-settings conn (s ∷ ss) = ap (λ n. 64 + length (compact_text s.update) + n) (weight-settings conn ss)
 
-weight-puts : (ps : List Put) → values_weight (map kept_put ps) ≡ puts_weight ps
+weight-puts : (ps : List Put) → values_weight (map waiting_put ps) ≡ puts_weight ps
 weight-puts [] = refl
 weight-puts (p ∷ ps) = ap (λ n. 64 + size_of p.value + n) (weight-puts ps)
 
@@ -403,14 +411,14 @@ life-weight a conn wish since l h =
     meta e f =
         let e1 = ap (λ ps. 64 * length ps) (no-publishes a conn (wish l) l h f) in
         let e2 = ap settings_weight (no-settings a (wish l) l h f) in
-        let e3 = ap puts_weight (no-values a (wish l) (since l) l (h.not_all f)) in
+        let e3 = ap puts_weight (no-values a (wish l) (since l) l h f) in
         let none : 0 ≡ weighs = omega arith in
         none ∙ on e
 
     topic : is_living l ≡ true → is_meta l.id ≡ false
         → mark_weight (topic_mark a conn (wish l) (since l) l) ≡ life_weight a conn (wish l) (since l) l
     topic e f =
-        let e1 = length-map (owed_publishes a conn l) kept_publish in
+        let e1 = length-map (owed_publishes a conn l) waiting_publish in
         let e2 = weight-settings conn (owed_settings a l) in
         let e3 = weight-puts (owed_values a (wish l) (since l) l) in
         let same : mark_weight (topic_mark a conn (wish l) (since l) l) ≡ weighs = omega arith in

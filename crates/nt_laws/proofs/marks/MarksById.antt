@@ -12,7 +12,7 @@ use Rattle.nt_rules.specs.outbox.Marks.{Mark}
 use Rattle.nt_rules.specs.declared.waiting.Publish.{Publish}
 use Rattle.nt_rules.specs.declared.waiting.Setting as marked
 use Rattle.nt_rules.specs.declared.waiting.Placed.{Placed}
-use Rattle.nt_rules.specs.outbox.Marks.{fresh, is_empty, is_wish, is_blank, is_meta, kept, at_id}
+use Rattle.nt_rules.specs.outbox.Marks.{fresh, is_empty, is_wish, is_blank, is_meta, unless_blank, at_id}
 use Rattle.nt_rules.specs.history.Lives.{Life, is_living}
 use Rattle.nt_rules.specs.history.Owed.{Account, life_at}
 use Rattle.nt_rules.specs.history.Marks.{mark_of, end_mark, meta_mark, topic_mark, marks_by}
@@ -59,7 +59,7 @@ look-above k n (m ∷ marks) le h =
 
 -- a mark that is kept, before others of which none has its id
 look-kept : (k : ℕ) (m : Mark) (marks : List Mark) → look m.id marks ≡ None
-    → look k (kept m marks) ≡ cond (k == m.id) (keep_opt m) (look k marks)
+    → look k (unless_blank m marks) ≡ cond (k == m.id) (keep_opt m) (look k marks)
 look-kept k m marks none = by (is_blank m) (m.id == k) refl (k == m.id) refl
   where
     by : (blank : Bool) → (b : Bool) → (m.id == k) ≡ b → (d : Bool) → (k == m.id) ≡ d
@@ -78,7 +78,7 @@ pub look-at : (k id : ℕ) (name : List ℕ) (f : Mark → Mark) → KeepsId f �
 look-at k id name f keeps [] rising = here (keeps (fresh id name))
   where
     here : (f (fresh id name)).id ≡ id
-        → look k (kept (f (fresh id name)) []) ≡ cond (k == id) (keep_opt (f (fresh id name))) None
+        → look k (unless_blank (f (fresh id name)) []) ≡ cond (k == id) (keep_opt (f (fresh id name))) None
     here e =
         look-kept k (f (fresh id name)) [] refl
         ∙ ap (λ n. cond (k == n) (keep_opt (f (fresh id name))) None) e
@@ -90,7 +90,7 @@ look-at k id name f keeps (m ∷ marks) rising =
         look k after ≡ cond (k == id) (keep_opt (f (or_fresh id name found))) (look k (m ∷ marks))
 
     -- it is the first
-    first : m.id ≡ id → look k (kept (f m) marks) ≡ cond (k == id) (keep_opt (f m)) (look k (m ∷ marks))
+    first : m.id ≡ id → look k (unless_blank (f m) marks) ≡ cond (k == id) (keep_opt (f m)) (look k (m ∷ marks))
     first same =
         look-kept k (f m) marks
         (ap (λ n. look n marks) (keeps m) ∙ look-above m.id m.id marks (omega arith) rising.0)
@@ -105,7 +105,7 @@ look-at k id name f keeps (m ∷ marks) rising =
             sym (ap (λ b. cond b (Some m) (look k marks)) other)
 
     -- it stands before the first
-    before : id < m.id → Goal (kept (f (fresh id name)) (m ∷ marks)) None
+    before : id < m.id → Goal (unless_blank (f (fresh id name)) (m ∷ marks)) None
     before less =
         look-kept k (f (fresh id name)) (m ∷ marks)
         (ap (λ n. look n (m ∷ marks)) (keeps (fresh id name))
@@ -130,19 +130,19 @@ look-at k id name f keeps (m ∷ marks) rising =
     by : look k (at_id id name f marks)
         ≡ cond (k == id) (keep_opt (f (or_fresh id name (look id marks)))) (look k marks)
         → (b : Bool) → (m.id == id) ≡ b → (d : Bool) → ltb id m.id ≡ d
-        → Goal (cond b (kept (f m) marks)
-        (cond d (kept (f (fresh id name)) (m ∷ marks)) (m ∷ at_id id name f marks))) (cond b (Some m)
+        → Goal (cond b (unless_blank (f m) marks)
+        (cond d (unless_blank (f (fresh id name)) (m ∷ marks)) (m ∷ at_id id name f marks))) (cond b (Some m)
         (look id marks))
     by more true e d g = first (grind (arith, nat_tests))
     by more false e true g =
         let less : id < m.id = grind (arith, nat_tests) in
-        subst (λ found. Goal (kept (f (fresh id name)) (m ∷ marks)) found)
+        subst (λ found. Goal (unless_blank (f (fresh id name)) (m ∷ marks)) found)
         (sym (look-above id m.id marks (omega arith) rising.0)) (before less)
     by more false e false g = after (grind (arith, nat_tests)) more
 
 -- ---- changes keep the order
 
-above-kept : (n : ℕ) (m : Mark) (marks : List Mark) → n < m.id → AllAbove n marks → AllAbove n (kept m marks)
+above-kept : (n : ℕ) (m : Mark) (marks : List Mark) → n < m.id → AllAbove n marks → AllAbove n (unless_blank m marks)
 above-kept n m marks less h = by (is_blank m)
   where
     by : (b : Bool) → AllAbove n (cond b marks (m ∷ marks))
@@ -159,14 +159,14 @@ above-at n id name f keeps less (m ∷ marks) h =
   where
     by : AllAbove n (at_id id name f marks) → (b d : Bool)
         → AllAbove n
-        (cond b (kept (f m) marks)
-        (cond d (kept (f (fresh id name)) (m ∷ marks)) (m ∷ at_id id name f marks)))
+        (cond b (unless_blank (f m) marks)
+        (cond d (unless_blank (f (fresh id name)) (m ∷ marks)) (m ∷ at_id id name f marks)))
     by more true d = above-kept n (f m) marks (subst (λ k. n < k) (sym (keeps m)) h.0) h.1
     by more false true =
         above-kept n (f (fresh id name)) (m ∷ marks) (subst (λ k. n < k) (sym (keeps (fresh id name))) less) h
     by more false false = (h.0, more)
 
-rising-kept : (m : Mark) (marks : List Mark) → AllAbove m.id marks → IsRising marks → IsRising (kept m marks)
+rising-kept : (m : Mark) (marks : List Mark) → AllAbove m.id marks → IsRising marks → IsRising (unless_blank m marks)
 rising-kept m marks above h = by (is_blank m)
   where
     by : (b : Bool) → IsRising (cond b marks (m ∷ marks))
@@ -181,8 +181,8 @@ rising-at id name f keeps (m ∷ marks) h =
   where
     by : IsRising (at_id id name f marks) → (b d : Bool) → (m.id == id) ≡ b → ltb id m.id ≡ d
         → IsRising
-        (cond b (kept (f m) marks)
-        (cond d (kept (f (fresh id name)) (m ∷ marks)) (m ∷ at_id id name f marks)))
+        (cond b (unless_blank (f m) marks)
+        (cond d (unless_blank (f (fresh id name)) (m ∷ marks)) (m ∷ at_id id name f marks)))
     by more true d e g = rising-kept (f m) marks (subst (λ k. AllAbove k marks) (sym (keeps m)) h.0) h.1
     by more false true e g =
         let less : id < m.id = grind (arith, nat_tests) in
@@ -198,7 +198,7 @@ abbrev pub AreKept : List Mark → Type 0
 AreKept [] = Unit {0}
 AreKept (m ∷ marks) = (is_blank m ≡ false) × AreKept marks
 
-are-kept : (m : Mark) (marks : List Mark) → AreKept marks → AreKept (kept m marks)
+are-kept : (m : Mark) (marks : List Mark) → AreKept marks → AreKept (unless_blank m marks)
 are-kept m marks h = by (is_blank m) refl
   where
     by : (b : Bool) → is_blank m ≡ b → AreKept (cond b marks (m ∷ marks))
@@ -212,8 +212,8 @@ kept-at id name f (m ∷ marks) h = by (kept-at id name f marks h.1) (m.id == id
   where
     by : AreKept (at_id id name f marks) → (b d : Bool)
         → AreKept
-        (cond b (kept (f m) marks)
-        (cond d (kept (f (fresh id name)) (m ∷ marks)) (m ∷ at_id id name f marks)))
+        (cond b (unless_blank (f m) marks)
+        (cond d (unless_blank (f (fresh id name)) (m ∷ marks)) (m ∷ at_id id name f marks)))
     by more true d = are-kept (f m) marks h.1
     by more false true = are-kept (f (fresh id name)) (m ∷ marks) h
     by more false false = (h.0, more)

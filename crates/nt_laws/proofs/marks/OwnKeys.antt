@@ -3,6 +3,7 @@ use Rattle.std.proofs.Common.{◌≡◌, ◌+◌, ◌&&◌, ◌==◌, ℕ, Bool,
 use Rattle.std.proofs.Common.{None, map, filter, flat_map, refl, sym, ◌∙◌, ap, subst, arith}
 use Rattle.std.specs.List.{AllByRecursion}
 use Rattle.std.proofs.lemmas.Bool.Decides.{nat_tests}
+use Rattle.nt_topics.specs.Properties.{is_cached}
 use Rattle.nt_subs.specs.declared.wish.Wanted.{Wanted}
 use Rattle.nt_subs.specs.declared.wish.Wanted.TheVariants.{No, TopicOnly, Newest, All}
 use Rattle.nt_rules.specs.topics.Puts.{Put}
@@ -11,10 +12,10 @@ use Rattle.nt_rules.specs.outbox.Keys.{Of_end, Key, is_kind, end_key, publish_ke
 use Rattle.nt_rules.specs.outbox.Keys.{is_value, next_value, in_order}
 use Rattle.nt_rules.specs.outbox.Marks as outbox
 use Rattle.nt_rules.specs.outbox.Marks.{is_blank, is_empty, is_wish, is_meta, option_items}
-use Rattle.nt_rules.specs.history.Lives.{Life, is_living, taken_of}
+use Rattle.nt_rules.specs.history.Lives.{Life, is_living, taken_since_turn}
 use Rattle.nt_rules.specs.history.Owed.{Account, is_announced, owed_end, owed_publishes, owed_settings, owed_values}
-use Rattle.nt_rules.specs.history.Owed.{owed_newest, newest_from, end_keys, reply_keys, topic_keys, value_keys}
-use Rattle.nt_rules.specs.history.Owed.{newest_keys, keys_owed, life_at}
+use Rattle.nt_rules.specs.history.Owed.{owed_newest, newest_for, newest_from, end_keys, reply_keys, topic_keys}
+use Rattle.nt_rules.specs.history.Owed.{value_keys, newest_keys, keys_owed, life_at}
 use Rattle.nt_rules.specs.history.Marks.{mark_of}
 use Rattle.nt_laws.proofs.topics.ItemFacts.{each-more, each-all, each-both, each-append, each-filter, each-passes}
 use Rattle.nt_laws.proofs.topics.ItemFacts.{each-map, each-flat, each-in_order}
@@ -221,25 +222,27 @@ blank-none P a conn wish since l h blank = record {
 -- of a meta topic that goes on, as a value that of the last change
 pub meta-last : (a : Account) (conn : ℕ) (wish : Wanted) (since : ℕ) (l : Life) → IsOrdinary wish l
     → is_meta l.id ≡ true
-    → OwnKeys (λ k. is_value k ≡ true → newest_from (k.place + 1) (taken_of l) ≡ None) a conn wish since l
+    → OwnKeys (λ k. is_value k ≡ true → newest_from (k.place + 1) (taken_since_turn l) ≡ None)
+    a conn wish since l
 meta-last a conn wish since l h meta = record {
   ends = ends-have P a l (λ place v. cc);
   replies = λ e. replies-have P a conn l (λ place v. cc) (λ place v. cc);
   news = λ e. news-have P a conn wish l (λ v. cc);
   values = λ e. subst (λ ps. AllByRecursion P (map (λ p. value_key l.id p.place) ps))
-      (sym (no-values a wish since l (h.not_all meta))) tt;
-  newest = λ e. by wish (taken_of l) refl;
+      (sym (no-values a wish since l h meta)) tt;
+  newest = λ e. if_cached (is_cached l.props);
 }
   where
     P : Key → Type 0
-    P k = is_value k ≡ true → newest_from (k.place + 1) (taken_of l) ≡ None
+    P k = is_value k ≡ true → newest_from (k.place + 1) (taken_since_turn l) ≡ None
 
-    from : (ps : List Put) → taken_of l ≡ ps → (b : Bool) (place : ℕ) → newest_from (place + 1) ps ≡ None
+    from : (ps : List Put) → taken_since_turn l ≡ ps → (b : Bool) (place : ℕ) → newest_from (place + 1) ps ≡ None
         → AllByRecursion P (map (value_key l.id) (option_items (cond b (Some place) None)))
     from ps e true place none = ((λ v. ap (λ qs. newest_from (place + 1) qs) e ∙ none), tt)
     from ps e false place none = tt
 
-    by : (w : Wanted) → (ps : List Put) → taken_of l ≡ ps → AllByRecursion P (newest_keys a w l)
+    by : (w : Wanted) → (ps : List Put) → taken_since_turn l ≡ ps
+        → AllByRecursion P (map (value_key l.id) (option_items (newest_for a w l)))
     by No ps e = tt
     by TopicOnly ps e = tt
     by All ps e = tt
@@ -252,3 +255,8 @@ meta-last a conn wish since l h meta = record {
         (map (value_key l.id) (option_items (newest_from (next_value a.given l.id) qs)))) (sym e)
         (from (p ∷ ps) e (leb (next_value a.given l.id) p.place) p.place
         (ap (λ b. cond b (Some p.place) None) past))
+
+    if_cached : (b : Bool)
+        → AllByRecursion P (map (value_key l.id) (option_items (cond b (newest_for a wish l) None)))
+    if_cached true = by wish (taken_since_turn l) refl
+    if_cached false = tt

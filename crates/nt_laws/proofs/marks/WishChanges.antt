@@ -10,13 +10,15 @@ use Rattle.nt_rules.specs.outbox.Keys.{Key}
 use Rattle.nt_rules.specs.declared.act.Msg.{Msg}
 use Rattle.nt_rules.specs.declared.act.Msg.TheVariants as msg
 use Rattle.nt_rules.specs.declared.act.Deed.{Deed}
-use Rattle.nt_rules.specs.declared.act.Deed.TheVariants.{Opened, NotOpened, Said, Drained, Closed, Permitted, NoPermit}
+use Rattle.nt_rules.specs.declared.act.Deed.TheVariants.{Opened, NotOpened, Said, Drained, Closed, Permitted}
+use Rattle.nt_rules.specs.declared.act.Deed.TheVariants.{NoPermit}
 use Rattle.nt_rules.specs.declared.act.Deed.TheVariants.{Shut}
 use Rattle.nt_rules.specs.declared.act.Entry.{Entry}
 use Rattle.nt_rules.specs.history.Lives.{closed_for}
 use Rattle.nt_rules.specs.declared.start.Start.{Start}
 use Rattle.nt_rules.specs.history.Now.{Now, Connection, is_open, is_conn, is_there, is_open_for, subs_of, with_subs}
-use Rattle.nt_rules.specs.history.Now.{opened, closed, cause_of, is_traced, connections_after, lives_after, after_said}
+use Rattle.nt_rules.specs.history.Now.{opened, closed, cause_of, is_traced, connections_after, lives_after}
+use Rattle.nt_rules.specs.history.Now.{after_said}
 use Rattle.nt_rules.specs.history.Now.{after_deed, now_of}
 use Rattle.nt_rules.specs.history.Owed.{wish_for, given_after}
 use Rattle.nt_laws.proofs.metas.MetaRows.{row_of_life, row_of_conn, rows_by, meta_rows}

@@ -3,6 +3,7 @@ use Rattle.std.proofs.Common.{◌≡◌, ◌≤◌, ◌+◌, ℕ, suc, true, fal
 use Rattle.std.proofs.Common.{length, codes, refl, sym, ◌∙◌, ap, subst, arith}
 use Rattle.std.specs.List.{AllByRecursion}
 use Rattle.std.proofs.lemmas.Bool.Decides.{nat_tests}
+use Rattle.nt_topics.specs.Properties.{is_cached}
 use Rattle.nt_subs.specs.declared.wish.Wanted.{Wanted}
 use Rattle.nt_subs.specs.declared.wish.Wanted.TheVariants.{No, TopicOnly, Newest, All}
 use Rattle.nt_rules.specs.Limits.{first_meta, last_connection, last_id}
@@ -216,12 +217,14 @@ pub meta-ordinary : (start : Start) (past : List Entry) (wish : List ℕ → Wan
 meta-ordinary start past wish l h = record {
   no_publishings = λ f. ap (λ (m : Life). m.publishings) h.life_is;
   no_settings = λ f. ap (λ (m : Life). m.settings) h.life_is;
+  cached = λ f. ap (λ (m : Life). is_cached m.props) h.life_is;
   not_all = λ f. ap (λ b. is_all (cond b (meta_wish (wish l.name)) (wish l.name))) f
       ∙ never-all (wish l.name);
 }
 
 client-ordinary : (wish : Wanted) (l : Life) → is_meta l.id ≡ false → IsOrdinary wish l
-client-ordinary wish l e = record { no_publishings = λ f. cc; no_settings = λ f. cc; not_all = λ f. cc }
+client-ordinary wish l e =
+    record { no_publishings = λ f. cc; no_settings = λ f. cc; cached = λ f. cc; not_all = λ f. cc }
 
 pub all-ordinary : (start : Start) (past : List Entry) (wish : List ℕ → Wanted) → IsNumbered start past
     → AreOrdinary (wish_on wish) (all_lives start past)

@@ -22,6 +22,7 @@ use Rattle.nt_rules.specs.history.Now.{Now, Connection, is_conn, is_open_for, wi
 use Rattle.nt_rules.specs.history.Now.{is_traced, connections_after, lives_after, after_deed, after}
 use Rattle.nt_laws.proofs.metas.MetaRows.{Row, row_of_life, row_of_conn, raised, server_rows, topic_pubs, topic_subs}
 use Rattle.nt_laws.proofs.metas.MetaRows.{client_pubs, client_subs, rows_by, meta_rows, row_at, RowsAbove, RowsRise}
+use Rattle.nt_laws.proofs.topics.Turns.{setting-by}
 use Rattle.nt_laws.proofs.metas.MetaRows.{row-above}
 
 -- ---- rows that grow
@@ -151,7 +152,8 @@ lives-said place lives conn (msg.Control (Unpublish uid)) =
     (λ l e. goes-on place l (without_publisher conn uid l) e refl) lives
 lives-said place lives conn (msg.Control (SetProps name update)) =
     grow-at place (is_named name) (λ l. or_ended place (with_setting place conn update l))
-    (λ l e. goes-on place l (with_setting place conn update l) e refl) lives
+    (λ l e. goes-on place l (with_setting place conn update l) e
+    (setting-by place conn update l (λ m. row_of_life m ≡ row_of_life l) refl refl)) lives
 lives-said place lives conn (msg.Control (Subscribe uid sub)) = grow-same place (map row_of_life lives)
 lives-said place lives conn (msg.Control (Unsubscribe uid)) = grow-same place (map row_of_life lives)
 lives-said place lives conn (msg.Put v) =

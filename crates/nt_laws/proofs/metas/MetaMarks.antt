@@ -17,7 +17,7 @@ use Rattle.nt_rules.specs.history.Lives.{Life}
 use Rattle.nt_rules.specs.declared.start.Start.{Start}
 use Rattle.nt_rules.specs.history.Now.{Now, now_of}
 use Rattle.nt_rules.specs.history.Metas.{same_bytes, metas_now, meta_place, all_lives}
-use Rattle.nt_rules.specs.history.Owed.{Account, account, is_announced, wish_for, wish_on, all_since}
+use Rattle.nt_rules.specs.history.Owed.{Account, account, is_announced, wish_for, wish_on, since_for}
 use Rattle.nt_rules.specs.history.Marks.{mark_of, meta_mark, topic_mark, marks_owed}
 use Rattle.nt_rules.specs.declared.meta.Difference.TheVariants.{Changed}
 use Rattle.nt_laws.proofs.metas.AllLives.{IsNumbered}
@@ -137,7 +137,7 @@ meta-look start past conn numbered k le =
     wish name = wish_for start past conn name
 
     since : Life → ℕ
-    since l = all_since start past conn l.name
+    since = since_for start past conn
 
     by : (o : Option Row) → RowHas k o
         → kept_of (mark_of a conn (wish_on wish) since) (option_map (life_of start past) o)

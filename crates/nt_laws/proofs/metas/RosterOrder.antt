@@ -19,6 +19,7 @@ use Rattle.nt_rules.specs.Limits.{last_connection, last_id}
 use Rattle.nt_rules.specs.declared.act.Entry.{Entry}
 use Rattle.nt_rules.specs.declared.roster.ConnRow.{ConnRow}
 use Rattle.nt_rules.specs.declared.roster.LifeRow.{LifeRow}
+use Rattle.nt_rules.specs.declared.roster.Roster.{Roster}
 use Rattle.nt_rules.specs.declared.roster.PubRow.{PubRow}
 use Rattle.nt_rules.specs.declared.roster.SubRow.{SubRow}
 use Rattle.nt_rules.specs.declared.start.Start.{Start}
@@ -337,6 +338,14 @@ by-uid-rises : (rows : List PubRow) → Pairwise (λ (a b : PubRow). a.uid ≢ b
     → Pairwise IsBelow (insert_all pub_below [] rows)
 by-uid-rises rows ne = all-rise [] rows tt ne (differ-none rows)
 
+-- where rows are in order the value of each meta topic is the one that the roster has under its name
+have-values : (r : Roster) → IsRoster r → IsInOrder r → HaveTheirValues r
+have-values r is_one order =
+    each-more _ _
+    (λ m found. ap (λ k. option_map (λ m. m.bytes) (named_in k m.name)) (rows-stay r order)
+    ∙ ap (λ o. option_map (λ m. m.bytes) o) found)
+    (metas r) (metas-found r is_one)
+
 -- ---- the roster
 
 module _ (start : Start) (past : List Entry) (saved : IsSavedSet start.saved) (legal : Legal start past) where
@@ -399,8 +408,4 @@ module _ (start : Start) (past : List Entry) (saved : IsSavedSet start.saved) (l
 
   -- so the value of each meta topic is the one that the roster has under its name
   pub roster-values : HaveTheirValues (roster_now now)
-  roster-values =
-      each-more _ _
-      (λ m found. ap (λ r. option_map (λ m. m.bytes) (named_in r m.name)) (rows-stay (roster_now now) roster-in-order)
-      ∙ ap (λ o. option_map (λ m. m.bytes) o) found)
-      (metas (roster_now now)) (metas-found (roster_now now) roster-is)
+  roster-values = have-values (roster_now now) roster-is roster-in-order

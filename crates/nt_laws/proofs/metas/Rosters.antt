@@ -22,7 +22,7 @@ use Rattle.nt_rules.specs.history.Now.{Now, Connection, open_ones, is_open_for, 
 use Rattle.nt_rules.specs.history.Now.{lives_after, connections_after, closed}
 use Rattle.nt_rules.specs.history.Metas.{pub_rows, pub_row, sub_row, conn_row, life_row, roster_of, metas_now}
 use Rattle.nt_rules.specs.meta.Order.{insert_all, pub_below}
-use Rattle.nt_rules.specs.history.State.{State, open_row, roster_kept, metas_kept}
+use Rattle.nt_rules.specs.history.State.{State, open_row, open_roster, open_metas}
 use Rattle.nt_rules.specs.history.Step.{Plain, plain, plain_of, Core, core, core_of}
 
 -- ---- the roster that is kept
@@ -49,7 +49,7 @@ rows-said ts (c ∷ conns) = ap (λ rows. conn_row ts c ∷ rows) (rows-said ts 
 
 pub roster-kept : (opens : List Open) (conns : List Connection) (ts : List Topic) → map plain opens
     ≡ map plain_of conns
-    → roster_kept opens ts ≡ roster_of conns ts
+    → open_roster opens ts ≡ roster_of conns ts
 roster-kept opens conns ts same =
     let rows : map (open_row ts) opens ≡ map (conn_row ts) conns =
     rows-kept ts opens ∙ ap (λ ps. map (row_of ts) ps) same ∙ sym (rows-said ts conns)
@@ -59,10 +59,10 @@ roster-kept opens conns ts same =
 -- where a server's state is kept of a history, its meta topics are those of the history
 pub metas-kept : (s : State) (n : Now) → core s ≡ core_of n → map plain s.opens
     ≡ map plain_of (open_ones n.connections)
-    → metas_kept s.opens s.topics ≡ metas_now n
-unfolding metas_kept
+    → open_metas s.opens s.topics ≡ metas_now n
+unfolding open_metas
 metas-kept s n kept same =
-    ap (λ ts. metas (roster_kept s.opens ts)) (ap (λ (c : Core). c.topics) kept)
+    ap (λ ts. metas (open_roster s.opens ts)) (ap (λ (c : Core). c.topics) kept)
     ∙ ap (λ r. metas r) (roster-kept s.opens (open_ones n.connections) (topics n.lives) same)
 
 -- ---- what a roster tells of topics
@@ -98,7 +98,8 @@ rows-alike : (ts us : List Topic) (conns : List Connection) → map bare ts ≡ 
 rows-alike ts us [] same = refl
 rows-alike ts us (c ∷ conns) same =
     let pubs : pub_rows c.number ts ≡ pub_rows c.number us =
-    ap (insert_all pub_below []) (pubs-bare c.number ts ∙ ap (flat_map (bare_pubs c.number)) same ∙ sym (pubs-bare c.number us))
+    ap (insert_all pub_below [])
+    (pubs-bare c.number ts ∙ ap (flat_map (bare_pubs c.number)) same ∙ sym (pubs-bare c.number us))
     in
     let more = rows-alike ts us conns same in
     cc

@@ -17,14 +17,14 @@ use Rattle.nt_rules.specs.declared.taken.Taken.{Taken}
 use Rattle.nt_rules.specs.history.Lives.{Life, topics}
 use Rattle.nt_rules.specs.history.Answer.{Legal, moment_of}
 use Rattle.nt_rules.specs.declared.start.Start.{Start}
-use Rattle.nt_rules.specs.history.Now.{Now, open_ones, subs_of, with_subs, said_cause, cause_of, is_traced, lives_after}
-use Rattle.nt_rules.specs.history.Now.{now_of}
+use Rattle.nt_rules.specs.history.Now.{Now, open_ones, is_there, subs_of, with_subs, said_cause, cause_of, is_traced}
+use Rattle.nt_rules.specs.history.Now.{lives_after, now_of}
 use Rattle.nt_rules.specs.history.Metas.{metas_now}
 use Rattle.nt_rules.specs.history.Marks.{held_place}
 use Rattle.nt_rules.specs.declared.meta.Difference.{Difference}
-use Rattle.nt_rules.specs.history.State.{State, differences, is_number, subs_at, metas_kept, refreshed, topics_said}
-use Rattle.nt_rules.specs.history.State.{changes_said, told_said, with_outbox, rewanted_all, meta_rewanted_all}
-use Rattle.nt_rules.specs.history.State.{with_subs_of, rewanting, subscribed}
+use Rattle.nt_rules.specs.history.State.{State, differences, is_number, subs_at, open_metas, refreshed, topics_said}
+use Rattle.nt_rules.specs.history.State.{changes_said, message_noted, with_outbox, rewanted_all, meta_rewanted_all}
+use Rattle.nt_rules.specs.history.State.{turned_id, turn_noted, with_subs_of, rewanting, subscribed}
 use Rattle.nt_rules.specs.history.Step.{Core, plain, plain_of, Owes, AllOwe}
 use Rattle.nt_laws.proofs.histories.Facts.{place-is}
 use Rattle.nt_laws.proofs.topics.OneName.{HasOneName, lives-named}
@@ -84,7 +84,7 @@ module _ (start : Start) (past : List Entry) (s : State) (worker now sender : �
   place_is : s.place + 1 ≡ place
   place_is = ap (λ p. p + 1) (place-kept s n kept ∙ place-is start past)
 
-  metas_are : metas_kept s.opens s.topics ≡ metas_now n
+  metas_are : open_metas s.opens s.topics ≡ metas_now n
   metas_are = metas-kept-by s.opens s.topics n kept.opens_are (topics-are s n kept)
 
   -- connections that are open after it as before it
@@ -97,6 +97,9 @@ module _ (start : Start) (past : List Entry) (s : State) (worker now sender : �
 
     pub had : (o : Open) → IsOpenIn n'.connections o → subs_of n.connections o.conn ≡ o.subs
     had o h = ap (λ cs. subs_of cs o.conn) (sym still) ∙ h.subs_are
+
+    was : (o : Open) → IsOpenIn n'.connections o → is_there n.connections o.conn ≡ true
+    was o h = ap (λ cs. is_there cs o.conn) (sym still) ∙ h.there
 
     -- where nothing is told
     pub all_still :
@@ -126,17 +129,21 @@ module _ (start : Start) (past : List Entry) (s : State) (worker now sender : �
       cause_is = cause-said n worker sender m None counts (λ h. cc)
 
       abbrev ops : Open → List Op
-      ops o = said_ops place (wanted o.subs) (topics lives) changes (is_number sender o) m
+      ops o = said_ops place (wanted o.subs) (topics n.lives) (topics lives) changes (is_number sender o) m
+
+      -- a turn, and then the changes
+      abbrev noted : ℕ → List Topic → List Topic → List Change → Open → Open
+      noted p before after changes o =
+          message_noted p after sender m changes (turn_noted p (turned_id before after m) o)
 
       abbrev refresh : List MetaNow → ℕ → List Topic → ℕ → List Open
       refresh ms p ts next =
           refreshed p ms (topics_said ts next sender m)
-          (map (told_said p (topics_said ts next sender m) sender m
-          (changes_said ts next sender m)) s.opens)
+          (map (noted p ts (topics_said ts next sender m) (changes_said ts next sender m)) s.opens)
 
       -- they are told of topics and of meta topics
       pub control-owe : AllOwe start (e ∷ past)
-          (refresh (metas_kept s.opens s.topics) (s.place + 1) s.topics s.next)
+          (refresh (open_metas s.opens s.topics) (s.place + 1) s.topics s.next)
       control-owe =
           subst (λ ms. AllOwe start (e ∷ past) (refresh ms (s.place + 1) s.topics s.next)) (sym metas_are)
           (subst (λ p. AllOwe start (e ∷ past) (refresh (metas_now n) p s.topics s.next)) (sym place_is)
@@ -145,21 +152,22 @@ module _ (start : Start) (past : List Entry) (s : State) (worker now sender : �
           (subst (λ next. AllOwe start (e ∷ past) (refresh (metas_now n) place (topics n.lives) next))
           (sym (next-is s n kept))
           (subst (λ after. AllOwe start (e ∷ past)
-          (refreshed place (metas_now n) after (map (told_said place after sender m changes) s.opens)))
+          (refreshed place (metas_now n) after (map (noted place (topics n.lives) after changes) s.opens)))
           (topics-said-are place n.lives (subs_of n.connections sender) sender m cause_is)
           (refreshed-owe start past (e ∷ past) place (metas_now n) (topics lives)
-          (told_said place (topics lives) sender m changes) ops
-          (said-still place (topics lives) sender m changes)
+          (noted place (topics n.lives) (topics lives) changes) ops
+          (said-still place (topics n.lives) (topics lives) sender m changes)
           (differences (metas_now n) (metas_now n')) s.opens differ
           (IsOpenIn n'.connections) one all_open owe)))))
         where
           differ : differences (metas_now n)
-              (metas_kept (map (told_said place (topics lives) sender m changes) s.opens) (topics lives))
+              (open_metas (map (noted place (topics n.lives) (topics lives) changes) s.opens) (topics lives))
               ≡ differences (metas_now n) (metas_now n')
           differ =
               ap (λ ms. differences (metas_now n) ms)
-              (metas-kept-by (map (told_said place (topics lives) sender m changes) s.opens) (topics lives) n'
-              (plain-said place (topics lives) sender m changes s.opens ∙ same_opens)
+              (metas-kept-by (map (noted place (topics n.lives) (topics lives) changes) s.opens) (topics lives) n'
+              (plain-said place (topics lives) (turned_id (topics n.lives) (topics lives) m) sender m changes s.opens
+              ∙ same_opens)
               (ap topics (sym lives_are)))
 
           one : (o : Open) → IsOpenIn n'.connections o → Owes start past o.conn o.outbox
@@ -169,12 +177,12 @@ module _ (start : Start) (past : List Entry) (s : State) (worker now sender : �
               (differences (metas_now n) (metas_now n'))) o.outbox)
           one o h owes =
               owes-said start past worker moment sender m o.conn legal before later o.subs
-              (had o h) h.subs_are one_name says counts h.there
+              (had o h) h.subs_are one_name says counts (was o h) h.there
               (is_number sender o) (flip sender o.conn) o.outbox owes
 
       abbrev tell : ℕ → List Topic → ℕ → List Open
       tell p ts next =
-          map (told_said p (topics_said ts next sender m) sender m (changes_said ts next sender m)) s.opens
+          map (noted p ts (topics_said ts next sender m) (changes_said ts next sender m)) s.opens
 
       -- they are told of topics alone
       pub put-owe : metas_now n' ≡ metas_now n → AllOwe start (e ∷ past) (tell (s.place + 1) s.topics s.next)
@@ -182,10 +190,10 @@ module _ (start : Start) (past : List Entry) (s : State) (worker now sender : �
           subst (λ p. AllOwe start (e ∷ past) (tell p s.topics s.next)) (sym place_is)
           (subst (λ ts. AllOwe start (e ∷ past) (tell place ts s.next)) (sym (topics-are s n kept))
           (subst (λ next. AllOwe start (e ∷ past) (tell place (topics n.lives) next)) (sym (next-is s n kept))
-          (subst (λ after. AllOwe start (e ∷ past) (map (told_said place after sender m changes) s.opens))
+          (subst (λ after. AllOwe start (e ∷ past) (map (noted place (topics n.lives) after changes) s.opens))
           (topics-said-are place n.lives (subs_of n.connections sender) sender m cause_is)
-          (told-owe start past (e ∷ past) place (told_said place (topics lives) sender m changes) ops
-          (said-still place (topics lives) sender m changes)
+          (told-owe start past (e ∷ past) place (noted place (topics n.lives) (topics lives) changes) ops
+          (said-still place (topics n.lives) (topics lives) sender m changes)
           (IsOpenIn n'.connections) one s.opens all_open owe))))
         where
           one : (o : Open) → IsOpenIn n'.connections o → Owes start past o.conn o.outbox
@@ -193,7 +201,7 @@ module _ (start : Start) (past : List Entry) (s : State) (worker now sender : �
           one o h owes =
               subst (λ ops. Owes start (e ∷ past) o.conn (called_all place ops o.outbox)) (append-nil (ops o))
               (owes-put start past worker moment sender m o.conn legal before later o.subs
-              (had o h) h.subs_are one_name says counts same h.there
+              (had o h) h.subs_are one_name says counts same (was o h) h.there
               (is_number sender o) (flip sender o.conn) o.outbox owes)
 
   -- a subscription or its end
@@ -221,7 +229,7 @@ module _ (start : Start) (past : List Entry) (s : State) (worker now sender : �
         by o true owes = owes
         by o false owes = owes
 
-    metas_after : metas_kept opens s.topics ≡ metas_now n'
+    metas_after : open_metas opens s.topics ≡ metas_now n'
     metas_after = metas-kept-by opens s.topics n' opens_are (topics-are s n kept ∙ ap topics (sym still))
 
     abbrev taken : List Taken
@@ -307,7 +315,7 @@ module _ (start : Start) (past : List Entry) (s : State) (worker now sender : �
         (subscribed s (s.place + 1) sender (f (subs_at s.opens sender))).opens
     subscribed-owe =
         subst (λ ms. AllOwe start (e ∷ past)
-        (subscribe (s.place + 1) s.taken s.topics ms (metas_kept opens s.topics)
+        (subscribe (s.place + 1) s.taken s.topics ms (open_metas opens s.topics)
         (subs_at s.opens sender))) (sym metas_are)
         (subst (λ ms. AllOwe start (e ∷ past)
         (subscribe (s.place + 1) s.taken s.topics (metas_now n) ms (subs_at s.opens sender)))
@@ -327,7 +335,7 @@ module _ (start : Start) (past : List Entry) (s : State) (worker now sender : �
         (topics n.lives) sub_told sub_ops sub_does ds opens differ
         (IsOpenIn n'.connections) sub_one opens_open opens_owe))))))
       where
-        differ : differences (metas_now n) (metas_kept (map sub_told opens) (topics n.lives)) ≡ ds
+        differ : differences (metas_now n) (open_metas (map sub_told opens) (topics n.lives)) ≡ ds
         differ =
             ap (λ ms. differences (metas_now n) ms)
             (metas-kept-by (map sub_told opens) (topics n.lives) n'

@@ -20,19 +20,19 @@ use Rattle.nt_rules.specs.declared.start.Start.{Start}
 use Rattle.nt_rules.specs.history.Now.{Now, open_ones, is_there, is_open_for, subs_of, closed, after, now_of}
 use Rattle.nt_rules.specs.history.Metas.{metas_now}
 use Rattle.nt_rules.specs.history.Answer.{entry, Legal, moment_of, may_permit, given_name, names_of, permit_deed}
-use Rattle.nt_rules.specs.history.State.{State, differences, metas_kept, refreshed, told_changes, is_number, serves}
-use Rattle.nt_rules.specs.history.State.{given_names, may_grant, opened_by, closed_by, acted}
+use Rattle.nt_rules.specs.history.State.{State, differences, open_metas, refreshed, cached_in, changes_noted}
+use Rattle.nt_rules.specs.history.State.{is_number, serves, given_names, may_grant, opened_by, closed_by, acted}
 use Rattle.nt_rules.specs.history.Step.{plain, plain_of, Owes, AllOwe}
 use Rattle.nt_laws.proofs.histories.Facts.{place-is, IsNumberedConnections}
 use Rattle.nt_laws.proofs.topics.ItemFacts.{each-more}
-use Rattle.nt_laws.proofs.metas.AllLives.{IsNumbered}
+use Rattle.nt_laws.proofs.metas.AllLives.{IsFitStart, IsNumbered}
 use Rattle.nt_laws.proofs.histories.CoreLaws.{IsKeptOf, IsNoDrain, orderly, topics-are, place-kept, opened-is, open-is}
 use Rattle.nt_laws.proofs.histories.CoreLaws.{kept-acted, reply-answer}
 use Rattle.nt_laws.proofs.histories.ConnectionLaws.{plain-refreshed, plain-told}
 use Rattle.nt_laws.proofs.histories.Lawful.{answered, legal-answered}
 use Rattle.nt_laws.proofs.metas.Rosters.{metas-kept}
-use Rattle.nt_laws.proofs.outboxes.OutboxCalls.{called_all, change_ops, noted-calls, difference_op}
-use Rattle.nt_laws.proofs.metas.MetaOrder.{FewSaved, is-numbered}
+use Rattle.nt_laws.proofs.outboxes.OutboxCalls.{Op, called_all, change_ops, noted-calls, difference_op}
+use Rattle.nt_laws.proofs.metas.MetaOrder.{is-numbered}
 use Rattle.nt_laws.proofs.marks.WishChanges.{is_rewanting, subs-deed}
 use Rattle.nt_laws.proofs.histories.Newcomer.{newcomer-owes}
 use Rattle.nt_laws.proofs.outboxes.UnchangedPresent.{IsIdle, owes-idle}
@@ -81,7 +81,7 @@ map-itself (x ∷ xs) = ap (λ ys. x ∷ ys) (map-itself xs)
 
 -- ---- one act
 
-module _ (start : Start) (past : List Entry) (s : State) (worker now : ℕ) (few : FewSaved start)
+module _ (start : Start) (past : List Entry) (s : State) (worker now : ℕ) (fit : IsFitStart start)
     (legal : Legal start past)
     (kept : IsKeptOf s (now_of start past)) (owe : AllOwe start past s.opens) where
   abbrev n : Now
@@ -91,7 +91,7 @@ module _ (start : Start) (past : List Entry) (s : State) (worker now : ℕ) (few
   moment = moment_of n now
 
   before : IsNumbered start past
-  before = is-numbered start past few legal
+  before = is-numbered start past fit.few legal
 
   place_is : s.place + 1 ≡ length past + 1
   place_is = ap (λ p. p + 1) (place-kept s n kept ∙ place-is start past)
@@ -102,14 +102,14 @@ module _ (start : Start) (past : List Entry) (s : State) (worker now : ℕ) (few
   kept-next a hands =
       subst (λ o. IsKeptOf (acted s worker now a) (after n (entry worker moment a o)))
       (reply-answer s start past worker now a hands kept)
-      (kept-acted s n worker now a (orderly start past few legal) kept)
+      (kept-acted s n worker now a (orderly start past fit.few fit.distinct legal) kept)
 
   -- an entry that is idle
   idle-owe : (e : Entry) → Legal start (e ∷ past) → IsIdle n e.worker e.conn e.deed
       → map plain s.opens ≡ map plain_of (open_ones (now_of start (e ∷ past)).connections)
       → AllOwe start (e ∷ past) s.opens
   idle-owe e lawful idle same =
-      let later = is-numbered start (e ∷ past) few lawful in
+      let later = is-numbered start (e ∷ past) fit.few lawful in
       all-idle start past e s.opens later idle
       (opens-in s.opens (now_of start (e ∷ past)).connections same later.connections_numbered) owe
 
@@ -161,11 +161,11 @@ module _ (start : Start) (past : List Entry) (s : State) (worker now : ℕ) (few
       → (now_of start (e ∷ past)).lives ≡ (now_of start past).lives → (opens : List Open)
       → map plain opens ≡ map plain_of (open_ones (now_of start (e ∷ past)).connections)
       → AllOwe start past opens
-      → AllOwe start (e ∷ past) (refreshed (s.place + 1) (metas_kept s.opens s.topics) s.topics opens)
+      → AllOwe start (e ∷ past) (refreshed (s.place + 1) (open_metas s.opens s.topics) s.topics opens)
   open-owe e lawful hands still lives opens same owes =
       subst (λ os. AllOwe start (e ∷ past)
-      (refreshed (s.place + 1) (metas_kept s.opens s.topics) s.topics os)) (map-itself opens)
-      (refreshed-owe start past (e ∷ past) (s.place + 1) (metas_kept s.opens s.topics) s.topics (λ o. o)
+      (refreshed (s.place + 1) (open_metas s.opens s.topics) s.topics os)) (map-itself opens)
+      (refreshed-owe start past (e ∷ past) (s.place + 1) (open_metas s.opens s.topics) s.topics (λ o. o)
       (λ o. []) (λ o. refl)
       (differences (metas_now n) (metas_now n')) opens differ (IsReady n n') each
       (all-ready n e opens still same later.connections_numbered) owes)
@@ -174,12 +174,12 @@ module _ (start : Start) (past : List Entry) (s : State) (worker now : ℕ) (few
       n' = now_of start (e ∷ past)
 
       later : IsNumbered start (e ∷ past)
-      later = is-numbered start (e ∷ past) few lawful
+      later = is-numbered start (e ∷ past) fit.few lawful
 
-      differ : differences (metas_kept s.opens s.topics) (metas_kept (map (λ o. o) opens) s.topics)
+      differ : differences (open_metas s.opens s.topics) (open_metas (map (λ o. o) opens) s.topics)
           ≡ differences (metas_now (now_of start past)) (metas_now (now_of start (e ∷ past)))
       differ =
-          ap (λ ms. differences ms (metas_kept (map (λ o. o) opens) s.topics))
+          ap (λ ms. differences ms (open_metas (map (λ o. o) opens) s.topics))
           (metas-kept s (now_of start past) kept.core_is kept.opens_are)
           ∙ ap (λ ms. differences (metas_now (now_of start past)) ms)
           (metas-kept-by (map (λ o. o) opens) s.topics (now_of start (e ∷ past))
@@ -228,7 +228,7 @@ module _ (start : Start) (past : List Entry) (s : State) (worker now : ℕ) (few
       by true true e lawful same = idle-owe (entered true) lawful tt same
       by false false e lawful same =
           open-owe (entered false) lawful tt refl refl (opens_then name)
-          (sym (plain-refreshed (s.place + 1) (metas_kept s.opens s.topics) s.topics (opens_then name))
+          (sym (plain-refreshed (s.place + 1) (open_metas s.opens s.topics) s.topics (opens_then name))
           ∙ same)
           (owe-append start past s.opens (new_open name ∷ []) owe (
             newcomer-owes start past (s.opened + 1) legal before (let count = opened-is s n kept
@@ -245,7 +245,11 @@ module _ (start : Start) (past : List Entry) (s : State) (worker now : ℕ) (few
   others conn = filter (λ o. not (is_number conn o)) s.opens
 
   abbrev told_ended : ℕ → Open → Open
-  told_ended conn = told_changes (s.place + 1) (drop_changes s.topics conn)
+  told_ended conn = changes_noted (s.place + 1) (dropped s.topics conn) (drop_changes s.topics conn)
+
+  abbrev ended_ops : ℕ → ℕ → Open → List Op
+  ended_ops conn place o =
+      change_ops place (cached_in (dropped s.topics conn)) (wanted o.subs) (drop_changes s.topics conn)
 
   abbrev closing : ℕ → Entry
   closing conn = record { worker = worker; conn = conn; now = moment; deed = Closed }
@@ -255,9 +259,9 @@ module _ (start : Start) (past : List Entry) (s : State) (worker now : ℕ) (few
       (now_of start (closing conn ∷ past))
       → AllOwe start (closing conn ∷ past) (closed_by s (s.place + 1) conn).opens
   close-owe conn lawful there later_kept =
-      refreshed-owe start past (closing conn ∷ past) (s.place + 1) (metas_kept s.opens s.topics)
+      refreshed-owe start past (closing conn ∷ past) (s.place + 1) (open_metas s.opens s.topics)
       (dropped s.topics conn) (told_ended conn)
-      (λ o. change_ops (s.place + 1) (wanted o.subs) (drop_changes s.topics conn)) does
+      (ended_ops conn (s.place + 1)) does
       (differences (metas_now n) (metas_now n')) (others conn) differ
       (IsReady n n') each (all-ready n (closing conn) (others conn) refl same_others
       later.connections_numbered)
@@ -267,37 +271,33 @@ module _ (start : Start) (past : List Entry) (s : State) (worker now : ℕ) (few
       n' = now_of start (closing conn ∷ past)
 
       later : IsNumbered start (closing conn ∷ past)
-      later = is-numbered start (closing conn ∷ past) few lawful
+      later = is-numbered start (closing conn ∷ past) fit.few lawful
 
-      does : (o : Open)
-          → told_changes (s.place + 1) (drop_changes s.topics conn) o
-          ≡ with_calls (s.place + 1)
-          (λ o. change_ops (s.place + 1) (wanted o.subs) (drop_changes s.topics conn)) o
+      does : (o : Open) → told_ended conn o ≡ with_calls (s.place + 1) (ended_ops conn (s.place + 1)) o
       does o = ap (λ b. record o { outbox = b })
-          (noted-calls (s.place + 1) (wanted o.subs) (drop_changes s.topics conn) o.outbox)
+          (noted-calls (s.place + 1) (dropped s.topics conn) (wanted o.subs) (drop_changes s.topics conn) o.outbox)
 
-      same_told : map plain (map (told_changes (s.place + 1) (drop_changes s.topics conn)) (others conn))
+      same_told : map plain (map (told_ended conn) (others conn))
           ≡ map plain_of (open_ones (now_of start (closing conn ∷ past)).connections)
       same_told =
-          sym (plain-refreshed (s.place + 1) (metas_kept s.opens s.topics) (dropped s.topics conn)
-          (map (told_changes (s.place + 1) (drop_changes s.topics conn)) (others conn)))
+          sym (plain-refreshed (s.place + 1) (open_metas s.opens s.topics) (dropped s.topics conn)
+          (map (told_ended conn) (others conn)))
           ∙ later_kept.opens_are
 
       same_others : map plain (others conn)
           ≡ map plain_of (open_ones (now_of start (closing conn ∷ past)).connections)
-      same_others = sym (plain-told (s.place + 1) (drop_changes s.topics conn) (others conn)) ∙ same_told
+      same_others =
+          sym (plain-told (s.place + 1) (dropped s.topics conn) (drop_changes s.topics conn) (others conn))
+          ∙ same_told
 
-      differ : differences (metas_kept s.opens s.topics)
-          (metas_kept (map (told_changes (s.place + 1) (drop_changes s.topics conn)) (others conn))
-          (dropped s.topics conn))
+      differ : differences (open_metas s.opens s.topics)
+          (open_metas (map (told_ended conn) (others conn)) (dropped s.topics conn))
           ≡ differences (metas_now (now_of start past)) (metas_now (now_of start (closing conn ∷ past)))
       differ =
-          ap (λ ms. differences ms
-          (metas_kept (map (told_changes (s.place + 1) (drop_changes s.topics conn)) (others conn))
-          (dropped s.topics conn)))
+          ap (λ ms. differences ms (open_metas (map (told_ended conn) (others conn)) (dropped s.topics conn)))
           (metas-kept s (now_of start past) kept.core_is kept.opens_are)
           ∙ ap (λ ms. differences (metas_now (now_of start past)) ms)
-          (metas-kept-by (map (told_changes (s.place + 1) (drop_changes s.topics conn)) (others conn))
+          (metas-kept-by (map (told_ended conn) (others conn))
           (dropped s.topics conn) (now_of start (closing conn ∷ past)) same_told
           (topics-are (record (closed_by s (s.place + 1) conn)
           { place = s.place + 1; moment = max s.moment now }) (now_of start (closing conn ∷ past))
@@ -316,26 +316,26 @@ module _ (start : Start) (past : List Entry) (s : State) (worker now : ℕ) (few
       each : (o : Open) → IsReady (now_of start past) (now_of start (closing conn ∷ past)) o
           → Owes start past o.conn o.outbox
           → Owes start (closing conn ∷ past) o.conn
-          (called_all (s.place + 1) (change_ops (s.place + 1) (wanted o.subs) (drop_changes s.topics conn)
+          (called_all (s.place + 1) (ended_ops conn (s.place + 1) o
           ++ map (difference_op (s.place + 1) (wanted o.subs))
           (differences (metas_now (now_of start past))
           (metas_now (now_of start (closing conn ∷ past))))) o.outbox)
       each o ready owes =
           subst (λ p. Owes start (closing conn ∷ past) o.conn
-          (called_all p (change_ops p (wanted o.subs) (drop_changes s.topics conn)
+          (called_all p (ended_ops conn p o
           ++ map (difference_op p (wanted o.subs))
           (differences (metas_now (now_of start past))
           (metas_now (now_of start (closing conn ∷ past))))) o.outbox))
           (sym place_is)
           (subst (λ ts. Owes start (closing conn ∷ past) o.conn
           (called_all (length past + 1)
-          (change_ops (length past + 1) (wanted o.subs) (drop_changes ts conn)
+          (change_ops (length past + 1) (cached_in (dropped s.topics conn)) (wanted o.subs) (drop_changes ts conn)
           ++ map (difference_op (length past + 1) (wanted o.subs))
           (differences (metas_now (now_of start past))
           (metas_now (now_of start (closing conn ∷ past))))) o.outbox))
           (sym (topics-are s (now_of start past) kept))
           (owes-closed start past (closing conn) o.conn legal before later tt o.subs ready.had ready.has
-          ready.there conn lives o.outbox owes))
+          ready.there conn (cached_in (dropped s.topics conn)) lives o.outbox owes))
 
   pub owes-close : (conn : ℕ)
       → AllOwe start (answered start past worker now (act.Close conn) ∷ past)

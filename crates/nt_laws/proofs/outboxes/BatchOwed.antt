@@ -1,11 +1,12 @@
 -- The messages that an outbox makes of keys, by what a server keeps, are those that the history says.
-use Rattle.std.proofs.Common.{◌≡◌, ◌&&◌, ◌==◌, ℕ, ℤ, Bool, true, false, cond, not, leb, pos, List, [], ◌∷◌, ◌++◌}
+use Rattle.std.proofs.Common.{◌≡◌, ◌&&◌, ◌==◌, ℕ, ℤ, Bool, true, false, cond, not, leb, ltb, pos, List, [], ◌∷◌, ◌++◌}
 use Rattle.std.proofs.Common.{Option, Some, None, option_map, option_and_then, unwrap_or, is_some, map, filter, reverse}
 use Rattle.std.proofs.Common.{find, codes, refl, sym, ◌∙◌, ap, subst, arith, ◌⊎◌, ⊎_elim}
 use Rattle.std.specs.List.{AllByRecursion, list_any}
 use Rattle.std.proofs.lemmas.Bool.Decides.{nat_tests}
 use Rattle.serde_json.specs.Data.{object, no_members}
 use Rattle.nt_values.specs.declared.value.Value.TheVariants.{Bytes}
+use Rattle.nt_topics.specs.Properties.{is_cached}
 use Rattle.nt_frames.specs.declared.message.ValueMsg.{ValueMsg}
 use Rattle.nt_control.specs.declared.message.ServerMsg.{ServerMsg}
 use Rattle.nt_control.specs.declared.message.ServerMsg.TheVariants.{Announce, Unannounce}
@@ -20,22 +21,22 @@ use Rattle.nt_rules.specs.declared.batch.Batch.{Batch}
 use Rattle.nt_rules.specs.declared.waiting.Placed.{Placed}
 use Rattle.nt_rules.specs.outbox.Keys.{Kind, Of_end, Of_publish, Of_setting, Of_topic, Of_value, Key, is_kind, is_in}
 use Rattle.nt_rules.specs.outbox.Keys.{next_value, publish_key, setting_key, value_key, is_value}
-use Rattle.nt_rules.specs.outbox.Marks.{is_blank, is_meta, option_items}
+use Rattle.nt_rules.specs.outbox.Marks.{is_blank, is_meta, is_valued, option_items}
 use Rattle.nt_rules.specs.outbox.Messages as outbox
 use Rattle.nt_rules.specs.outbox.Messages.{Living, batch_of, mark_at, announced, held_value, placed_value, value_by}
 use Rattle.nt_rules.specs.outbox.Messages.{text_by, text_of, value_of}
-use Rattle.nt_rules.specs.history.Lives.{Life, Publishing, Setting, is_living, taken_of, topic_of}
+use Rattle.nt_rules.specs.history.Lives.{Life, Publishing, Setting, is_living, taken_since_turn, topic_of}
 use Rattle.nt_rules.specs.history.Metas.{meta_at}
 use Rattle.nt_rules.specs.history.Owed as history
-use Rattle.nt_rules.specs.history.Owed.{Account, owed_publishes, owed_settings, owed_values, owed_newest, newest_from}
-use Rattle.nt_rules.specs.history.Owed.{place_by, end_keys, reply_keys, topic_keys, value_keys, newest_keys, keys_owed}
-use Rattle.nt_rules.specs.history.Owed.{life_at, messages, put_value}
-use Rattle.nt_rules.specs.history.Marks.{kept_publish, kept_setting, kept_put, topic_mark, meta_mark, end_mark, mark_of}
-use Rattle.nt_rules.specs.history.Marks.{marks_by}
+use Rattle.nt_rules.specs.history.Owed.{Account, owed_publishes, owed_settings, owed_cached, owed_uncached}
+use Rattle.nt_rules.specs.history.Owed.{owed_values, newest_for, newest_from, place_by, end_keys, reply_keys}
+use Rattle.nt_rules.specs.history.Owed.{topic_keys, value_keys, newest_keys, keys_owed, life_at, messages, put_value}
+use Rattle.nt_rules.specs.history.Marks.{waiting_publish, waiting_setting, waiting_put, topic_mark, meta_mark}
+use Rattle.nt_rules.specs.history.Marks.{end_mark, mark_of, marks_by}
 use Rattle.nt_laws.proofs.histories.Facts.{IsPlaced, IsRising}
-use Rattle.nt_laws.proofs.topics.TakenPuts.{taken-head}
+use Rattle.nt_laws.proofs.topics.TakenPuts.{since-head}
 use Rattle.nt_laws.proofs.topics.ItemFacts.{each-both, each-append, each-filter, each-map, each-reverse}
-use Rattle.nt_laws.proofs.topics.FoundItems.{place-found, rising-filter, find-map, each-taken, taken-rise, put-found}
+use Rattle.nt_laws.proofs.topics.FoundItems.{place-found, rising-filter, find-map, each-since, since-rise, put-found}
 use Rattle.nt_laws.proofs.marks.KeysOwed.{unplaced, IsOrdinary, mark-id, mark-name, no-values, no-publishes}
 use Rattle.nt_laws.proofs.marks.KeysOwed.{no-settings}
 use Rattle.nt_laws.proofs.marks.OwnKeys.{OwnKeys, each-owed, ends-have, news-have, blank-none}
@@ -193,10 +194,10 @@ module _ (living : Living) (moment conn n : ℕ) (a : Account) (wish : Life → 
       one p all kept =
           text-said Of_publish p.place refl
           (ap (λ m. text_by living m Of_publish p.place) (topic-is e c.is_client)
-          ∙ announced-is e c (outbox.uid_at p.place (map kept_publish (owed_publishes a conn l)))
+          ∙ announced-is e c (outbox.uid_at p.place (map waiting_publish (owed_publishes a conn l)))
           ∙ ap (λ o. Announce l.name (pos l.id) l.typ (option_map (λ q. q.uid) o) l.props)
-          (find-map (λ q. q.place == p.place) kept_publish (owed_publishes a conn l)
-          ∙ ap (option_map kept_publish) kept)
+          (find-map (λ q. q.place == p.place) waiting_publish (owed_publishes a conn l)
+          ∙ ap (option_map waiting_publish) kept)
           ∙ sym (ap
           (λ o. Announce l.name (pos l.id) l.typ (option_map (λ (q : Publishing). q.uid) o) l.props) all))
 
@@ -212,7 +213,7 @@ module _ (living : Living) (moment conn n : ℕ) (a : Account) (wish : Life → 
       (rising-filter (λ s. s.place) told 1 n l.settings c.placed.settings_rise)))
     where
       told : Setting → Bool
-      told s = list_any (λ place. place == s.place) a.told_of
+      told s = list_any (λ place. place == s.place) a.told_settings
 
       given_not : Setting → Bool
       given_not s = not (is_in a.given (setting_key l.id s.place))
@@ -224,8 +225,8 @@ module _ (living : Living) (moment conn n : ℕ) (a : Account) (wish : Life → 
           text-said Of_setting s.place refl
           (ap (λ m. text_by living m Of_setting s.place) (topic-is e c.is_client)
           ∙ ap (λ o. outbox.properties topic o)
-          (find-map (λ r. r.place == s.place) (kept_setting conn) (owed_settings a l)
-          ∙ ap (option_map (kept_setting conn)) kept)
+          (find-map (λ r. r.place == s.place) (waiting_setting conn) (owed_settings a l)
+          ∙ ap (option_map (waiting_setting conn)) kept)
           ∙ sym (ap (λ o. history.properties_text conn l.name o) all))
 
   news-said : is_living l ≡ true → IsClient n living.topics l
@@ -240,7 +241,7 @@ module _ (living : Living) (moment conn n : ℕ) (a : Account) (wish : Life → 
   represents place f = ap (λ b. cond b (value_key l.id 0) (value_key l.id place)) f
 
   value-is : is_living l ≡ true → IsClient n living.topics l → (place : ℕ) (o : Option Placed)
-      → find (λ p. p.place == place) (map kept_put (owed_values a (wish l) (since l) l)) ≡ o
+      → find (λ p. p.place == place) (map waiting_put (owed_values a (wish l) (since l) l)) ≡ o
       → value_by living moment mark place ≡ placed_value living topic o
   value-is e c place o kept =
       ap (λ m. value_by living moment m place) (topic-is e c.is_client)
@@ -258,79 +259,114 @@ module _ (living : Living) (moment conn n : ℕ) (a : Account) (wish : Life → 
       told : ℕ → ValueMsg
       told t = record { id = pos l.id; time = t; value = p.value }
 
+  -- each put that was taken since the turn is found by its place
+  since-found : IsClient n living.topics l
+      → AllByRecursion (λ p. find (λ q. q.place == p.place) l.puts ≡ Some p) (taken_since_turn l)
+  since-found c =
+      each-since (λ p. find (λ q. q.place == p.place) l.puts ≡ Some p) l (put-found l.puts c.placed.puts_fall)
+
   values-said : is_living l ≡ true → IsClient n living.topics l
       → AllByRecursion Said (value_keys a (wish l) (since l) l)
   values-said e c =
-      each-map Said (λ p. value_key l.id p.place) (owed_values a (wish l) (since l) l) (by (wish l) refl)
+      each-map Said (λ p. value_key l.id p.place) owes (by (is_cached l.props) refl)
     where
-      test : Put → Bool
-      test p = leb (next_value a.given l.id) p.place && leb (place_by (since l) (taken_of l)) p.place
+      owes : List Put
+      owes = owed_values a (wish l) (since l) l
+
+      Tells : Put → Type 0
+      Tells p = Said (value_key l.id p.place)
 
       one : (p : Put) → find (λ q. q.place == p.place) l.puts ≡ Some p
-          → find (λ q. q.place == p.place) (owed_values a (wish l) (since l) l) ≡ Some p
+          → find (λ q. q.place == p.place) owes ≡ Some p
           → Said (value_key l.id p.place)
       one p all kept =
           value-said p.place p.place (represents p.place c.is_client)
-          (value-is e c p.place (Some (kept_put p))
-          (find-map (λ q. q.place == p.place) kept_put (owed_values a (wish l) (since l) l)
-          ∙ ap (option_map kept_put) kept)
+          (value-is e c p.place (Some (waiting_put p))
+          (find-map (λ q. q.place == p.place) waiting_put owes
+          ∙ ap (option_map waiting_put) kept)
           ∙ sym (put-is c.is_client p.place p all))
 
-      by : (w : Wanted) → wish l ≡ w
-          → AllByRecursion (λ p. Said (value_key l.id p.place)) (owed_values a w (since l) l)
-      by No h = tt
-      by TopicOnly h = tt
-      by Newest h = tt
-      by All h =
+      passing : List Put
+      passing = owed_uncached a (wish l) (since l) l
+
+      none : owes ≡ [] → AllByRecursion Tells owes
+      none h = subst (λ ps. AllByRecursion Tells ps) (sym h) tt
+
+      -- of those taken since the turn the ones that pass a test, oldest first
+      some : (test : Put → Bool) → owes ≡ reverse (filter test (taken_since_turn l)) → AllByRecursion Tells owes
+      some test h =
           each-both (λ p. find (λ q. q.place == p.place) l.puts ≡ Some p)
-          (λ p. find (λ q. q.place == p.place) (owed_values a All (since l) l) ≡ Some p) _
-          (λ p all kept. one p all
-          (ap (λ w. find (λ (q : Put). q.place == p.place) (owed_values a w (since l) l)) h ∙ kept))
-          (owed_values a All (since l) l)
-          (each-reverse _ (filter test (taken_of l))
-          (each-filter _ test (taken_of l) (each-taken _ l.puts (put-found l.puts c.placed.puts_fall))))
-          (place-found (λ p. p.place) 0 n (owed_values a All (since l) l)
-          (subst (λ ps. IsRising (λ p. p.place) 0 n ps) (filter-reverse test (taken_of l))
-          (rising-filter (λ p. p.place) test 0 n (reverse (taken_of l))
-          (taken-rise n l.puts c.placed.puts_before c.placed.puts_fall))))
+          (λ p. find (λ q. q.place == p.place) owes ≡ Some p) Tells one owes
+          (subst (λ ps. AllByRecursion (λ p. find (λ q. q.place == p.place) l.puts ≡ Some p) ps) (sym h)
+          (each-reverse _ (filter test (taken_since_turn l))
+          (each-filter _ test (taken_since_turn l) (since-found c))))
+          (place-found (λ p. p.place) 0 n owes
+          (subst (λ ps. IsRising (λ p. p.place) 0 n ps)
+          (filter-reverse test (taken_since_turn l) ∙ sym h)
+          (rising-filter (λ p. p.place) test 0 n (reverse (taken_since_turn l))
+          (since-rise n l c.placed.puts_before c.placed.puts_fall))))
+
+      cached : (w : Wanted) → owes ≡ owed_cached a w (since l) l → AllByRecursion Tells owes
+      cached No h = none h
+      cached TopicOnly h = none h
+      cached Newest h = none h
+      cached All h =
+          some
+          (λ p. leb (next_value a.given l.id) p.place && leb (place_by (since l) (taken_since_turn l)) p.place) h
+
+      uncached : (b : Bool) → owes ≡ cond b (owed_uncached a All (since l) l) [] → AllByRecursion Tells owes
+      uncached true h = some (λ p. leb (next_value a.given l.id) p.place && ltb (since l) p.place) h
+      uncached false h = none h
+
+      by : (b : Bool) → is_cached l.props ≡ b → AllByRecursion Tells owes
+      by true h = cached (wish l) (ap (λ b. cond b (owed_cached a (wish l) (since l) l) passing) h)
+      by false h =
+          uncached (is_valued (wish l)) (ap (λ b. cond b (owed_cached a (wish l) (since l) l) passing) h)
 
   newest-said : is_living l ≡ true → IsClient n living.topics l
       → AllByRecursion Said (newest_keys a (wish l) l)
-  newest-said e c = by (wish l) refl (taken_of l) refl
+  newest-said e c = by (is_cached l.props) refl
     where
-      one : (p : Put) (ps : List Put) → wish l ≡ Newest → taken_of l ≡ p ∷ ps → Said (value_key l.id p.place)
-      one p ps h t =
+      keys : Option ℕ → List Key
+      keys o = map (value_key l.id) (option_items o)
+
+      one : (p : Put) (ps : List Put) → is_cached l.props ≡ true → wish l ≡ Newest → taken_since_turn l ≡ p ∷ ps
+          → Said (value_key l.id p.place)
+      one p ps is h t =
           value-said p.place p.place (represents p.place c.is_client)
           (value-is e c p.place None
-          (ap (λ w. find (λ q. q.place == p.place) (map kept_put (owed_values a w (since l) l))) h)
+          (ap (λ w. find (λ q. q.place == p.place) (map waiting_put (owed_values a w (since l) l))) h
+          ∙ ap (λ b. find (λ q. q.place == p.place)
+          (map waiting_put (cond b [] (owed_uncached a Newest (since l) l)))) is)
           ∙ ap (λ o. held_value l.id (option_and_then (λ (t : Topic). t.value) o)) (c.named e)
-          ∙ ap (λ o. held_value l.id (option_map timed o)) (sym (taken-head l) ∙ ap newest t)
-          ∙ sym (put-is c.is_client p.place p (among p ps t)))
+          ∙ ap (λ o. held_value l.id (option_map timed o)) (sym (since-head l is) ∙ ap newest t)
+          ∙ sym (put-is c.is_client p.place p among))
         where
-          among : (p : Put) (ps : List Put) → taken_of l ≡ p ∷ ps
-              → find (λ q. q.place == p.place) l.puts ≡ Some p
-          among p ps t =
+          among : find (λ q. q.place == p.place) l.puts ≡ Some p
+          among =
               (subst (λ qs. AllByRecursion (λ (r : Put). find (λ q. q.place == r.place) l.puts ≡ Some r) qs) t
-              (each-taken (λ r. find (λ q. q.place == r.place) l.puts ≡ Some r) l.puts
-              (put-found l.puts c.placed.puts_fall))).0
+              (since-found c)).0
 
       from : (p : Put) (b : Bool) → Said (value_key l.id p.place)
-          → AllByRecursion Said (map (value_key l.id) (option_items (cond b (Some p.place) None)))
+          → AllByRecursion Said (keys (cond b (Some p.place) None))
       from p true s = (s, tt)
       from p false s = tt
 
-      by : (w : Wanted) → wish l ≡ w → (ps : List Put) → taken_of l ≡ ps
-          → AllByRecursion Said (newest_keys a w l)
-      by No h ps t = tt
-      by TopicOnly h ps t = tt
-      by All h ps t = tt
-      by Newest h [] t =
-          subst (λ qs. AllByRecursion Said
-          (map (value_key l.id) (option_items (newest_from (next_value a.given l.id) qs)))) (sym t) tt
-      by Newest h (p ∷ ps) t =
-          subst (λ qs. AllByRecursion Said
-          (map (value_key l.id) (option_items (newest_from (next_value a.given l.id) qs)))) (sym t)
-          (from p (leb (next_value a.given l.id) p.place) (one p ps h t))
+      cached : is_cached l.props ≡ true → (w : Wanted) → wish l ≡ w → (ps : List Put) → taken_since_turn l ≡ ps
+          → AllByRecursion Said (keys (newest_for a w l))
+      cached is No h ps t = tt
+      cached is TopicOnly h ps t = tt
+      cached is All h ps t = tt
+      cached is Newest h [] t =
+          subst (λ qs. AllByRecursion Said (keys (newest_from (next_value a.given l.id) qs))) (sym t) tt
+      cached is Newest h (p ∷ ps) t =
+          subst (λ qs. AllByRecursion Said (keys (newest_from (next_value a.given l.id) qs))) (sym t)
+          (from p (leb (next_value a.given l.id) p.place) (one p ps is h t))
+
+      by : (b : Bool) → is_cached l.props ≡ b
+          → AllByRecursion Said (keys (cond b (newest_for a (wish l) l) None))
+      by true is = cached is (wish l) refl (taken_since_turn l) refl
+      by false is = tt
 
   -- ---- of a meta topic that goes on
 
@@ -388,7 +424,7 @@ module _ (living : Living) (moment conn n : ℕ) (a : Account) (wish : Life → 
 
   meta-newest-said : is_living l ≡ true → (h : IsMeta living.metas l)
       → AllByRecursion Said (newest_keys a (wish l) l)
-  meta-newest-said e h = by (wish l)
+  meta-newest-said e h = by (is_cached l.props)
     where
       put : Put
       put = record { place = h.put_place; time = 0; value = Bytes (unwrap_or (meta_at l.id living.metas) []) }
@@ -398,15 +434,24 @@ module _ (living : Living) (moment conn n : ℕ) (a : Account) (wish : Life → 
       one true = (meta-value-said e h, tt)
       one false = tt
 
-      by : (w : Wanted) → AllByRecursion Said (newest_keys a w l)
-      by No = tt
-      by TopicOnly = tt
-      by All = tt
-      by Newest =
+      since_turn : taken_since_turn l ≡ put ∷ []
+      since_turn =
+          ap (λ props. cond (is_cached props) (taken l.puts) l.puts) h.props_are ∙ ap taken h.puts_are
+
+      cached : (w : Wanted) → AllByRecursion Said (map (value_key l.id) (option_items (newest_for a w l)))
+      cached No = tt
+      cached TopicOnly = tt
+      cached All = tt
+      cached Newest =
           subst (λ ps. AllByRecursion Said
-          (map (value_key l.id) (option_items (newest_from (next_value a.given l.id) (taken ps)))))
-          (sym h.puts_are)
+          (map (value_key l.id) (option_items (newest_from (next_value a.given l.id) ps))))
+          (sym since_turn)
           (one (leb (next_value a.given l.id) h.put_place))
+
+      by : (b : Bool)
+          → AllByRecursion Said (map (value_key l.id) (option_items (cond b (newest_for a (wish l) l) None)))
+      by true = cached (wish l)
+      by false = tt
 
   -- ---- of any life
 
@@ -424,7 +469,7 @@ module _ (living : Living) (moment conn n : ℕ) (a : Account) (wish : Life → 
     values = λ e. ⊎_elim
         (λ c. values-said e c)
         (λ h. subst (λ ps. AllByRecursion Said (map (λ p. value_key l.id p.place) ps))
-        (sym (no-values a (wish l) (since l) l (o.not_all h.is_meta_id))) tt)
+        (sym (no-values a (wish l) (since l) l o h.is_meta_id)) tt)
         known;
     newest = λ e. ⊎_elim (λ c. newest-said e c) (λ h. meta-newest-said e h) known;
   }

@@ -8,15 +8,15 @@ use Rattle.nt_rules.specs.outbox.Marks.{Mark}
 use Rattle.nt_rules.specs.declared.batch.Batch.{Batch}
 use Rattle.nt_rules.specs.outbox.Keys.{Key, Of_end, is_kind, is_value}
 use Rattle.nt_rules.specs.outbox.Marks.{keys, weight, handed_all}
-use Rattle.nt_rules.specs.outbox.Calls.{OutboxState, behind, left, fallen, drained}
+use Rattle.nt_rules.specs.outbox.Calls.{OutboxState, behind, unless_behind, fallen, drained}
 use Rattle.nt_rules.specs.declared.act.Deed.TheVariants.{Drained}
 use Rattle.nt_rules.specs.declared.act.Entry.{Entry}
-use Rattle.nt_rules.specs.history.Lives.{Life, taken_of}
+use Rattle.nt_rules.specs.history.Lives.{Life, taken_since_turn}
 use Rattle.nt_rules.specs.declared.start.Start.{Start}
 use Rattle.nt_rules.specs.history.Now.{Connection, now_of, is_conn, is_there, is_open_for}
 use Rattle.nt_rules.specs.history.Metas.{all_lives}
 use Rattle.nt_rules.specs.history.Owed.{Account, account, accounted, given_after, owed, owed_by, keys_owed}
-use Rattle.nt_rules.specs.history.Owed.{lives_weight, messages, newest_from, life_at, wish_for, wish_on, all_since}
+use Rattle.nt_rules.specs.history.Owed.{lives_weight, messages, newest_from, life_at, wish_for, wish_on, since_for}
 use Rattle.nt_rules.specs.history.Marks.{marks_by, marks_owed}
 use Rattle.nt_rules.specs.history.State.{drained_by}
 use Rattle.nt_rules.specs.history.Step.{Owes}
@@ -24,7 +24,7 @@ use Rattle.nt_laws.proofs.topics.ItemFacts.{each-both, each-take}
 use Rattle.nt_laws.proofs.marks.KeysOwed.{unplaced, IsOrdinary, weight-owed}
 use Rattle.nt_laws.proofs.metas.AllLives.{IsNumbered, all-found, all-ordinary}
 use Rattle.nt_laws.proofs.histories.Lawful.{length-messages}
-use Rattle.nt_laws.proofs.outboxes.OutboxKeys.{wish_of, since_of, marks-keys}
+use Rattle.nt_laws.proofs.outboxes.OutboxKeys.{wish_of, marks-keys}
 use Rattle.nt_laws.proofs.marks.OwnKeys.{OfLife, of-life, over-ends, blank-none, meta-last}
 use Rattle.nt_laws.proofs.marks.HandedMarks.{Fits, out-of, reached-of, with_given, marks-handed}
 use Rattle.nt_laws.proofs.outboxes.UnchangedPresent.{IsQuiet, quiet-numbered, quiet-marks, owes-still}
@@ -50,7 +50,7 @@ fits-prefix a conn wish since lives n found ordinary =
           (of-life Ends a conn wish since lives found l here (over-ends a conn (wish l) (since l) l e)));
       if_blank = λ e. out-of l.id (take n ks) (each-take (OfLife l.id Ends) n ks
           (of-life Ends a conn wish since lives found l here (blank-none Ends a conn wish since l h e)));
-      if_meta = λ e meta. reached-of l.id (taken_of l) (take n ks) (each-take (OfLife l.id Last) n ks
+      if_meta = λ e meta. reached-of l.id (taken_since_turn l) (take n ks) (each-take (OfLife l.id Last) n ks
           (of-life Last a conn wish since lives found l here (meta-last a conn (wish l) (since l) l h meta)));
     }
       where
@@ -58,7 +58,7 @@ fits-prefix a conn wish since lives n found ordinary =
         Ends k = is_kind k.kind Of_end ≡ true
 
         Last : Key → Type 0
-        Last k = is_value k ≡ true → newest_from (k.place + 1) (taken_of l) ≡ None
+        Last k = is_value k ≡ true → newest_from (k.place + 1) (taken_since_turn l) ≡ None
 
 -- ---- the account
 
@@ -75,12 +75,12 @@ fell-now start past e conn n there none =
 
     total : ℕ
     total = lives_weight next conn (wish_of start (e ∷ past) conn)
-        (since_of start (e ∷ past) conn) (all_lives start (e ∷ past))
+        (since_for start (e ∷ past) conn) (all_lives start (e ∷ past))
 
     weighs : weight (marks_owed start (e ∷ past) conn) ≡ total
     weighs =
         weight-owed next conn (wish_of start (e ∷ past) conn)
-        (since_of start (e ∷ past) conn) (all_lives start (e ∷ past))
+        (since_for start (e ∷ past) conn) (all_lives start (e ∷ past))
         (all-ordinary start (e ∷ past) (wish_for start (e ∷ past) conn) n)
 
     by : (f : Option ℕ) → f ≡ None → (t : Bool) → t ≡ true
@@ -95,14 +95,14 @@ pub owed-all : (start : Start) (past : List Entry) (conn : ℕ)
     → (account start past conn).fell ≡ None
     → owed start past conn
     ≡ keys_owed (account start past conn) conn (wish_of start past conn)
-    (since_of start past conn) (all_lives start past)
+    (since_for start past conn) (all_lives start past)
 owed-all start past conn there none =
     ap (λ t. cond (t && is_none (account start past conn).fell) ks []) there
     ∙ ap (λ f. cond (is_none f) ks []) none
   where
     ks : List Key
     ks = keys_owed (account start past conn) conn (wish_of start past conn)
-        (since_of start past conn) (all_lives start past)
+        (since_for start past conn) (all_lives start past)
 
 -- and where it is behind
 pub owed-none : (start : Start) (past : List Entry) (conn w : ℕ) → (account start past conn).fell ≡ Some w
@@ -115,7 +115,7 @@ owed-none start past conn w fell =
 
     ks : List Key
     ks = keys_owed (account start past conn) conn (wish_of start past conn)
-        (since_of start past conn) (all_lives start past)
+        (since_for start past conn) (all_lives start past)
 
     by : (t : Bool) → cond (t && false) ks [] ≡ []
     by true = refl
@@ -170,7 +170,7 @@ drained-marks start past worker conn moment budget batch n open_for none same =
     wish = wish_on (wish_for start past conn)
 
     since : Life → ℕ
-    since l = all_since start past conn l.name
+    since = since_for start past conn
 
     lives : List Life
     lives = all_lives start past
@@ -237,9 +237,9 @@ owes-drained start past worker conn moment budget batch b n open_for same owes =
     drains none =
         let fell : (account start past conn).fell ≡ None = sym owes.behind_is ∙ none in
         let held : b.marks ≡ m =
-        ap (λ o. left o b.marks) (sym none) ∙ owes.marks_are ∙ ap (λ o. left o m) none in
+        ap (λ o. unless_behind o b.marks) (sym none) ∙ owes.marks_are ∙ ap (λ o. unless_behind o m) none in
         let marks : (drained budget b).marks ≡ marks_owed start (e ∷ past) conn =
-        ap (λ o. handed_all (take budget (keys (left o b.marks))) b.marks) none
+        ap (λ o. handed_all (take budget (keys (unless_behind o b.marks))) b.marks) none
         ∙ ap (λ ms. handed_all (take budget (keys ms)) ms) held
         ∙ drained-marks start past worker conn moment budget batch n open_for fell (same none)
         in
@@ -250,7 +250,7 @@ owes-drained start past worker conn moment budget batch b n open_for same owes =
           behind_is = ap (λ f. fallen f (weight (drained budget b).marks)) (unfallen b.fell none)
               ∙ ap (λ ms. fallen None (weight ms)) marks
               ∙ sym (fell-now start past e conn n' there fell);
-          marks_are = ap (λ ms. left (behind (drained budget b)) ms) marks;
+          marks_are = ap (λ ms. unless_behind (behind (drained budget b)) ms) marks;
         }
 
     -- nothing is handed to one that is behind

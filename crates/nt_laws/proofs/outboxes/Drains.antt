@@ -12,7 +12,7 @@ use Rattle.nt_rules.specs.declared.batch.Batch.{Batch}
 use Rattle.nt_rules.specs.outbox.Keys.{Key}
 use Rattle.nt_rules.specs.outbox.Marks.{is_meta}
 use Rattle.nt_rules.specs.outbox.Messages.{Living, batch_of}
-use Rattle.nt_rules.specs.outbox.Calls.{OutboxState, behind, left, keys_of}
+use Rattle.nt_rules.specs.outbox.Calls.{OutboxState, behind, unless_behind, keys_of}
 use Rattle.nt_rules.specs.declared.act.StepOut.{StepOut}
 use Rattle.nt_rules.specs.declared.act.StepOut.TheVariants as out
 use Rattle.nt_rules.specs.declared.act.Act.TheVariants as act
@@ -25,10 +25,10 @@ use Rattle.nt_rules.specs.history.Now.{Connection, now_of, is_conn, is_open, ope
 use Rattle.nt_rules.specs.history.Metas.{metas_now, meta_at, meta_place, meta_lives, all_lives}
 use Rattle.nt_rules.specs.history.Owed as history
 use Rattle.nt_rules.specs.history.Owed.{Account, account, owed, given_after, keys_owed, life_at, messages, wish_for}
-use Rattle.nt_rules.specs.history.Owed.{wish_on, all_since}
+use Rattle.nt_rules.specs.history.Owed.{wish_on, since_for}
 use Rattle.nt_rules.specs.history.Answer.{Legal, answer, drained_out, drained_batch, moment_of}
 use Rattle.nt_rules.specs.history.Marks.{marks_owed}
-use Rattle.nt_rules.specs.history.State.{State, serves, outbox_at, metas_kept, drained_answer, drained_by, drained_from}
+use Rattle.nt_rules.specs.history.State.{State, serves, outbox_at, open_metas, drained_answer, drained_by, drained_from}
 use Rattle.nt_rules.specs.history.State.{with_outbox, reply, acted}
 use Rattle.nt_rules.specs.history.Step.{Plain, plain, plain_of, Owes, AllOwe}
 use Rattle.nt_laws.proofs.topics.ItemFacts.{each-more, each-both, each-append, each-take}
@@ -45,7 +45,7 @@ use Rattle.nt_laws.proofs.metas.MetaRows.{Row, meta_rows, living_row, row_at, ro
 use Rattle.nt_laws.proofs.metas.MetaRows.{meta-found}
 use Rattle.nt_laws.proofs.metas.MetaOrder.{is-numbered, meta-rows-rise, meta-life}
 use Rattle.nt_laws.proofs.metas.Differences.{meta_of}
-use Rattle.nt_laws.proofs.outboxes.OutboxKeys.{wish_of, since_of, owes-behind, owes-keys}
+use Rattle.nt_laws.proofs.outboxes.OutboxKeys.{wish_of, owes-behind, owes-keys}
 use Rattle.nt_laws.proofs.outboxes.BatchOwed.{IsKnown, IsSaid, all-said, batch-said}
 use Rattle.nt_laws.proofs.outboxes.UnchangedPresent.{quiet-numbered, owes-still}
 use Rattle.nt_laws.proofs.outboxes.Draining.{drain_of, is-quiet, open-there, length_of, take-messages, owes-drained}
@@ -145,7 +145,7 @@ batch-owed start past conn moment budget fit legal there none =
     (each-take Said budget (owed start past conn)
     (subst (λ ks. AllByRecursion Said ks) (sym (owed-all start past conn there none))
     (all-said living moment conn (now_of start past).place (account start past conn)
-    (wish_of start past conn) (since_of start past conn) lives
+    (wish_of start past conn) (since_for start past conn) lives
     (all-found start past n) (all-ordinary start past (wish_for start past conn) n)
     (all-known start past fit legal))))
   where
@@ -170,7 +170,7 @@ pub drained-answer : (start : Start) (past : List Entry) (s : State) (moment con
     → IsFitStart start → Legal start past
     → is_there (now_of start past).connections conn ≡ true
     → s.topics ≡ topics (now_of start past).lives
-    → metas_kept s.opens s.topics ≡ metas_now (now_of start past)
+    → open_metas s.opens s.topics ≡ metas_now (now_of start past)
     → Owes start past conn (outbox_at s.opens conn)
     → drained_answer s moment conn budget
     ≡ drained_out (history.behind start past conn)
@@ -186,7 +186,7 @@ drained-answer start past s moment conn budget fit legal there ts ms owes =
     b = outbox_at s.opens conn
 
     living : Living
-    living = record { topics = s.topics; metas = metas_kept s.opens s.topics }
+    living = record { topics = s.topics; metas = open_metas s.opens s.topics }
 
     same : behind b ≡ history.behind start past conn
     same = owes-behind start past conn b there owes
@@ -197,10 +197,10 @@ drained-answer start past s moment conn budget fit legal there ts ms owes =
     by (Some w) e = refl
     by None e =
         let held : b.marks ≡ marks_owed start past conn =
-        ap (λ o. left o b.marks) (sym e) ∙ owes.marks_are
-        ∙ ap (λ o. left o (marks_owed start past conn)) e in
+        ap (λ o. unless_behind o b.marks) (sym e) ∙ owes.marks_are
+        ∙ ap (λ o. unless_behind o (marks_owed start past conn)) e in
         ap (λ x. drained_out None
-        (batch_of (record { topics = x; metas = metas_kept s.opens s.topics }) moment b.marks
+        (batch_of (record { topics = x; metas = open_metas s.opens s.topics }) moment b.marks
         (take budget (keys_of b)))) ts
         ∙ ap (λ x. drained_out None
         (batch_of (record { topics = topics (now_of start past).lives; metas = x }) moment b.marks

@@ -11,7 +11,7 @@ use Rattle.nt_rules.specs.outbox.Marks.{Mark, keys}
 use Rattle.nt_rules.specs.outbox.Calls.{fallen}
 use Rattle.nt_rules.specs.history.Now.{now_of, is_there, is_open_for}
 use Rattle.nt_rules.specs.history.Metas.{all_lives}
-use Rattle.nt_rules.specs.history.Owed.{account, accounted, owed, keys_owed, weight_by}
+use Rattle.nt_rules.specs.history.Owed.{account, accounted, owed, keys_owed, weight_by, since_for}
 use Rattle.nt_rules.specs.history.Marks.{marks_owed}
 use Rattle.nt_rules.specs.history.Answer.{Legal, answer, drained_batch, moment_of}
 use Rattle.nt_rules.specs.history.Drains.{with_drain, with_drains}
@@ -21,7 +21,7 @@ use Rattle.nt_laws.proofs.marks.FewerOwed.{fewer-keys}
 use Rattle.nt_laws.proofs.metas.AllLives.{IsNumbered, saved-fit}
 use Rattle.nt_laws.proofs.metas.MetaOrder.{is-numbered}
 use Rattle.nt_laws.proofs.histories.Lawful.{legal-answered}
-use Rattle.nt_laws.proofs.outboxes.OutboxKeys.{wish_of, since_of, marks-keys}
+use Rattle.nt_laws.proofs.outboxes.OutboxKeys.{wish_of, marks-keys}
 use Rattle.nt_laws.proofs.outboxes.UnchangedPresent.{quiet-numbered}
 use Rattle.nt_laws.proofs.outboxes.Draining.{drain_of, is-quiet, open-there, owed-all, owed-none, drained-marks}
 use Rattle.nt_laws.proofs.outboxes.Drains.{drained-prefix}
@@ -37,7 +37,7 @@ length-owed start past conn n there none =
     ks : List Key
     ks =
         keys_owed (account start past conn) conn (wish_of start past conn)
-        (since_of start past conn) (all_lives start past)
+        (since_for start past conn) (all_lives start past)
 
 -- a drain leaves fewer messages owed where some are, and none where none is
 pub drain-lowers : (start : Start) (past : List Entry) (worker conn budget now : ℕ)

@@ -1,6 +1,7 @@
 -- The open connections that a server keeps are open in the history, and each outbox goes its own way.
 use Rattle.std.proofs.Common.{◌≡◌, ◌<◌, ◌≤◌, ◌+◌, ◌==◌, ◌&&◌, ◌||◌, ◌⊎◌, inl, inr, ℕ, suc, Bool, true, false, cond}
-use Rattle.std.proofs.Common.{List, [], ◌∷◌, ◌++◌, Option, map, filter, length, refl, sym, ◌∙◌, ap, subst, arith}
+use Rattle.std.proofs.Common.{List, [], ◌∷◌, ◌++◌, Option, None, map, filter, length, refl, sym, ◌∙◌, ap, subst}
+use Rattle.std.proofs.Common.{arith}
 use Rattle.std.specs.List.{AllByRecursion}
 use Rattle.std.proofs.lemmas.Bool.{cases_lt}
 use Rattle.std.proofs.lemmas.Bool.Decides.{nat_tests}
@@ -11,7 +12,7 @@ use Rattle.nt_rules.specs.declared.act.Entry.{Entry}
 use Rattle.nt_rules.specs.history.State.{Open}
 use Rattle.nt_rules.specs.declared.start.Start.{Start}
 use Rattle.nt_rules.specs.history.Now.{Connection, is_open, is_conn, is_there, open_ones, subs_of, now_of}
-use Rattle.nt_rules.specs.history.Owed.{account, wish_for, wish_on, all_since}
+use Rattle.nt_rules.specs.history.Owed.{account, wish_for, wish_on, since_for}
 use Rattle.nt_rules.specs.history.Metas.{all_lives}
 use Rattle.nt_rules.specs.history.Marks.{marks_owed}
 use Rattle.nt_rules.specs.history.Step.{Plain, plain, plain_of, Owes, AllOwe}
@@ -22,9 +23,9 @@ use Rattle.nt_laws.proofs.outboxes.OutboxKeys.{marks-weight}
 use Rattle.nt_laws.proofs.metas.MetaOrder.{lives-rise}
 use Rattle.nt_laws.proofs.marks.MarksById.{look, IsRising, rising-marks_by}
 use Rattle.nt_laws.proofs.outboxes.OutboxCalls.{Op, run_at, run_at-append, none-at, called_all, KeepIds, keep-append}
-use Rattle.nt_laws.proofs.outboxes.OutboxCalls.{marks-run, owes-called}
+use Rattle.nt_laws.proofs.outboxes.OutboxCalls.{marks-run, owes-where}
 use Rattle.nt_laws.proofs.marks.ClientMarksById.{client_at}
-use Rattle.nt_laws.proofs.marks.ClientMarks.{client-look}
+use Rattle.nt_laws.proofs.marks.ClientMarks.{since_by, client-look}
 use Rattle.nt_laws.proofs.marks.ClientIds.{AreClient, none-client}
 
 -- ---- open in the history
@@ -123,7 +124,7 @@ marks-rise : (start : Start) (past : List Entry) (conn : ℕ) → IsNumbered sta
     → IsRising (marks_owed start past conn)
 marks-rise start past conn numbered =
     rising-marks_by (account start past conn) conn (wish_on (wish_for start past conn))
-    (λ l. all_since start past conn l.name)
+    (since_for start past conn)
     (all_lives start past) (lives-rise start past numbered)
 
 -- an outbox that is told of client topics and of meta topics what leads from what was kept of each to what is
@@ -131,34 +132,34 @@ pub owes-told : (start : Start) (past : List Entry) (e : Entry) (conn : ℕ) (b 
     → IsNumbered start (e ∷ past)
     → Owes start past conn b → is_there (now_of start (e ∷ past)).connections conn ≡ true
     → (ts ms : List Op) → KeepIds ts → KeepIds ms → AreClient ts
-    → ((k : ℕ) → k < first_meta
+    → ((account start past conn).fell ≡ None → (k : ℕ) → k < first_meta
     → run_at k ts
-    (client_at (account start past conn) conn (wish_for start past conn) (all_since start past conn) k
+    (client_at (account start past conn) conn (wish_for start past conn) (since_by start past conn) k
     (now_of start past).lives)
     ≡ client_at (account start (e ∷ past) conn) conn (wish_for start (e ∷ past) conn)
-    (all_since start (e ∷ past) conn) k (now_of start (e ∷ past)).lives)
+    (since_by start (e ∷ past) conn) k (now_of start (e ∷ past)).lives)
     → ((k : ℕ) → k < first_meta → (found : Option Mark) → run_at k ms found ≡ found)
     → ((k : ℕ) → first_meta ≤ k → run_at k ms (look k (marks_owed start past conn))
     ≡ look k (marks_owed start (e ∷ past) conn))
     → Owes start (e ∷ past) conn (called_all (length past + 1) (ts ++ ms) b)
 owes-told start past e conn b before later owes there ts ms keep_ts keep_ms client clients below metas =
-    owes-called start past e conn (ts ++ ms) b owes there
-    (marks-run (ts ++ ms) (marks_owed start past conn) (marks_owed start (e ∷ past) conn)
+    owes-where start past e conn (ts ++ ms) b owes there
+    (λ well. marks-run (ts ++ ms) (marks_owed start past conn) (marks_owed start (e ∷ past) conn)
     (keep-append ts ms keep_ts keep_ms)
     (marks-rise start past conn before) (marks-rise start (e ∷ past) conn later)
-    (λ k. by k (cases_lt k first_meta)))
+    (λ k. by well k (cases_lt k first_meta)))
     (marks-weight start (e ∷ past) conn later)
   where
-    by : (k : ℕ) → (k < first_meta) ⊎ (first_meta ≤ k)
+    by : (account start past conn).fell ≡ None → (k : ℕ) → (k < first_meta) ⊎ (first_meta ≤ k)
         → run_at k (ts ++ ms) (look k (marks_owed start past conn))
         ≡ look k (marks_owed start (e ∷ past) conn)
-    by k (inl low) =
+    by well k (inl low) =
         run_at-append k ts ms (look k (marks_owed start past conn))
         ∙ below k low (run_at k ts (look k (marks_owed start past conn)))
         ∙ ap (λ found. run_at k ts found) (client-look start past conn before k low)
-        ∙ clients k low
+        ∙ clients well k low
         ∙ sym (client-look start (e ∷ past) conn later k low)
-    by k (inr high) =
+    by well k (inr high) =
         run_at-append k ts ms (look k (marks_owed start past conn))
         ∙ ap (λ found. run_at k ms found)
         (none-at k ts (look k (marks_owed start past conn)) (none-client k ts high client))

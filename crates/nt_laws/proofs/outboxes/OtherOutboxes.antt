@@ -1,5 +1,6 @@
 -- An outbox after other entries: older puts, subscriptions, and connections that come and go.
-use Rattle.std.proofs.Common.{◌≡◌, ◌<◌, ◌≤◌, ◌+◌, ◌==◌, ◌&&◌, ℕ, true, cond, List, [], ◌∷◌, ◌++◌, Option, Some, map}
+use Rattle.std.proofs.Common.{◌≡◌, ◌<◌, ◌≤◌, ◌+◌, ◌==◌, ◌&&◌, ℕ, Bool, true, cond, List, [], ◌∷◌, ◌++◌, Option, Some}
+use Rattle.std.proofs.Common.{map}
 use Rattle.std.proofs.Common.{length, refl, sym, ◌∙◌, ap, subst, arith}
 use Rattle.std.specs.List.{filter_map}
 use Rattle.nt_subs.specs.Subscriptions.{Subs}
@@ -17,7 +18,7 @@ use Rattle.nt_rules.specs.history.Answer.{Legal}
 use Rattle.nt_rules.specs.declared.start.Start.{Start}
 use Rattle.nt_rules.specs.history.Now.{Now, is_open_for, is_there, subs_of, cause_of, is_traced, lives_after, now_of}
 use Rattle.nt_rules.specs.history.Metas.{metas_now}
-use Rattle.nt_rules.specs.history.Owed.{Account, account, owed_by, wish_for, is_all, all_since}
+use Rattle.nt_rules.specs.history.Owed.{Account, account, owed_by, wish_for}
 use Rattle.nt_rules.specs.history.Marks.{marks_owed, held_place}
 use Rattle.nt_rules.specs.history.State.{differences}
 use Rattle.nt_rules.specs.history.Step.{Owes}
@@ -32,7 +33,9 @@ use Rattle.nt_laws.proofs.outboxes.OutboxCalls.{difference_op, keep-differences,
 use Rattle.nt_laws.proofs.outboxes.OutboxCalls.{keep-rewanted, change_ops, keep-changes}
 use Rattle.nt_laws.proofs.marks.ClientMarksById.{client_at, Scene, SameSince, client-older, client-stays}
 use Rattle.nt_laws.proofs.marks.ClientWishes.{client-rewanted, client-closed}
-use Rattle.nt_laws.proofs.marks.ClientMarks.{scene, same-since, HandsNothing, given-stays}
+use Rattle.nt_laws.proofs.marks.ClientMarks.{since_by, scene, since-after, same-since, HandsNothing}
+use Rattle.nt_laws.proofs.marks.ClientMarks.{given-stays}
+use Rattle.nt_laws.proofs.marks.MarkLaws.{counts}
 use Rattle.nt_laws.proofs.marks.ClientIds.{AreClient, AreLow, low-topics, low-dropped, low-rewanted}
 use Rattle.nt_laws.proofs.outboxes.OpenConnections.{owes-told}
 use Rattle.nt_laws.proofs.outboxes.OutboxesAfterMessage.{said_entry, lives-said, cause-said}
@@ -55,11 +58,11 @@ module _ (start : Start) (past : List Entry) (e : Entry) (conn : ℕ) (legal : L
   abbrev a' : Account
   a' = account start (e ∷ past) conn
 
-  abbrev since : List ℕ → ℕ
-  since = all_since start past conn
+  abbrev since : Bool → List ℕ → ℕ
+  since = since_by start past conn
 
-  abbrev now : List ℕ → ℕ
-  now = all_since start (e ∷ past) conn
+  abbrev now : Bool → List ℕ → ℕ
+  now = since_by start (e ∷ past) conn
 
   scene_is : Scene (length past) a a' since n.lives
   scene_is = scene start past e conn before legal hands
@@ -103,7 +106,7 @@ module _ (start : Start) (past : List Entry) (e : Entry) (conn : ℕ) (legal : L
     owes-lives ts keep client lives after each b owes =
         owes-told start past e conn b before later owes there ts metas keep
         (keep-differences place (wanted subs) (differences (metas_now n) (metas_now n'))) client
-        (clients-by ts lives after each)
+        (λ well. clients-by ts lives after each)
         (metas-told-below start past e conn legal before later gives place (wanted subs))
         (λ k high. ap
         (λ s. run_at k (map (difference_op place (wanted s)) (differences (metas_now n) (metas_now n')))
@@ -124,18 +127,19 @@ module _ (start : Start) (past : List Entry) (e : Entry) (conn : ℕ) (legal : L
         (wanted subs) since now n.lives scene_is same_is k) b owes
 
     -- the end of another connection
-    pub owes-closed : (sender : ℕ) → n'.lives ≡ map (closed_for place sender) n.lives → (b : OutboxState)
+    pub owes-closed : (sender : ℕ) (cached : List ℕ → Bool) → n'.lives ≡ map (closed_for place sender) n.lives
+        → (b : OutboxState)
         → Owes start past conn b
         → Owes start (e ∷ past) conn
-        (called_all place (change_ops place (wanted subs) (drop_changes (topics n.lives) sender)
+        (called_all place (change_ops place cached (wanted subs) (drop_changes (topics n.lives) sender)
         ++ map (difference_op place (wanted subs)) (differences (metas_now n) (metas_now n'))) b)
-    owes-closed sender after b owes =
-        owes-lives (change_ops place (wanted subs) (drop_changes (topics n.lives) sender))
-        (keep-changes place (wanted subs) (drop_changes (topics n.lives) sender))
-        (low-dropped place (wanted subs) (topics n.lives) low_before sender)
+    owes-closed sender cached after b owes =
+        owes-lives (change_ops place cached (wanted subs) (drop_changes (topics n.lives) sender))
+        (keep-changes place cached (wanted subs) (drop_changes (topics n.lives) sender))
+        (low-dropped place cached (wanted subs) (topics n.lives) low_before sender)
         (map (closed_for place sender) n.lives) after
         (λ k low. client-closed (length past) a a' conn
-        (wanted subs) since now n.lives scene_is same_is k low sender) b owes
+        (wanted subs) since now n.lives scene_is same_is k low sender cached) b owes
 
     -- an entry that leaves what is kept of client topics, and the meta topics
     pub owes-kept : (lives : List Life) → n'.lives ≡ lives → metas_now n' ≡ metas_now n
@@ -144,7 +148,7 @@ module _ (start : Start) (past : List Entry) (e : Entry) (conn : ℕ) (legal : L
         → (b : OutboxState) → Owes start past conn b → Owes start (e ∷ past) conn b
     owes-kept lives after still each b owes =
         owes-told start past e conn b before later owes there [] [] tt tt tt
-        (clients-by [] lives after each) (λ k low found. refl)
+        (λ well. clients-by [] lives after each) (λ k low found. refl)
         (λ k high. metas-still start past e conn legal before later gives wishes still k high)
 
     pub scene-kept : Scene (length past) a a' since n.lives
@@ -168,7 +172,7 @@ module _ (start : Start) (past : List Entry) (e : Entry) (conn : ℕ) (legal : L
       (keep-append ms ds (keep-meta (wanted old) (wanted subs) (metas_now n'))
       (keep-differences place (wanted subs) (differences (metas_now n) (metas_now n'))))
       (low-rewanted (filter_map held_place n.lives) (wanted old) (wanted subs) (topics n.lives) low_before)
-      clients
+      (λ well. clients)
       (λ k low found. run_at-append k ms ds found
       ∙ ap (λ x. run_at k ds x)
       (metas-rewanted-below start past e conn legal before later gives (wanted old) (wanted subs) k low found)
@@ -184,8 +188,11 @@ module _ (start : Start) (past : List Entry) (e : Entry) (conn : ℕ) (legal : L
       ds : List Op
       ds = map (difference_op place (wanted subs)) (differences (metas_now n) (metas_now n'))
 
-      turns : (name : List ℕ) → now name ≡ cond (is_all (wanted old name)) (since name) (length past + 1)
-      turns name = ap (λ s. cond (is_all (wanted s name)) (since name) (length past + 1)) had
+      turns : (cached : Bool) (name : List ℕ)
+          → now cached name ≡ cond (counts cached (wanted old name)) (since cached name) (length past + 1)
+      turns cached name =
+          since-after start past e conn cached name
+          ∙ ap (λ s. cond (counts cached (wanted s name)) (since cached name) (length past + 1)) had
 
       clients : (k : ℕ) → k < first_meta
           → run_at k ts (client_at a conn (wish_for start past conn) since k n.lives)
@@ -226,7 +233,7 @@ owes-older start past worker moment sender v conn legal before later subs had ha
     (lives_after (length past + 1) (now_of start past).lives sender (msg.Put v))
     (lives-said start past worker moment sender (msg.Put v) (ap (λ c. is_traced (msg.Put v) c) older)) still
     (λ k low. client-older (length past) (account start past conn) (account start (e ∷ past) conn) conn
-    (wanted subs) (all_since start past conn) (all_since start (e ∷ past) conn) (now_of start past).lives
+    (wanted subs) (since_by start past conn) (since_by start (e ∷ past) conn) (now_of start past).lives
     (scene-kept start past e conn legal before later tt subs had has there)
     (since-kept start past e conn legal before later tt subs had has there) k sender v.id v.time v.value
     (cause-said (now_of start past) worker sender (msg.Put v) (Some Older) older apart))

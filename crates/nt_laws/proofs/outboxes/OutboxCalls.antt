@@ -5,6 +5,7 @@ use Rattle.std.specs.Prelude.{is_none, is_some, option_map}
 use Rattle.std.proofs.lemmas.Bool.Decides.{nat_tests}
 use Rattle.std.proofs.lemmas.Option.{none-some}
 use Rattle.serde_json.specs.Data.{Data}
+use Rattle.nt_topics.specs.Properties.{is_cached}
 use Rattle.nt_subs.specs.declared.wish.Wanted.{Wanted}
 use Rattle.nt_subs.specs.declared.wish.Wanted.TheVariants.{No, TopicOnly, Newest, All}
 use Rattle.nt_rules.specs.declared.topic.Topic.{Topic}
@@ -14,10 +15,12 @@ use Rattle.nt_control.specs.declared.message.ClientMsg.TheVariants.{SetProps}
 use Rattle.nt_rules.specs.declared.meta.MetaNow.{MetaNow}
 use Rattle.nt_rules.specs.outbox.Marks.{Mark}
 use Rattle.nt_rules.specs.declared.waiting.Placed.{Placed}
-use Rattle.nt_rules.specs.outbox.Marks.{started, noted_value, noted_setting, ended, replied_publish, replied_setting}
-use Rattle.nt_rules.specs.outbox.Marks.{rewanted, placed, same_wish, meta_wish, changed_meta, rewanted_meta, weight}
+use Rattle.nt_rules.specs.outbox.Marks.{started, noted_value, noted_setting, turned, ended, replied_publish}
+use Rattle.nt_rules.specs.outbox.Marks.{replied_setting, rewanted, placed, same_wish, meta_wish, changed_meta}
+use Rattle.nt_rules.specs.outbox.Marks.{rewanted_meta, weight}
 use Rattle.nt_rules.specs.outbox.Marks.{at_id}
-use Rattle.nt_rules.specs.outbox.Calls.{OutboxState, fallen, behind, left, moved, called, id_of, at_topic, noted_in}
+use Rattle.nt_rules.specs.outbox.Calls.{OutboxState, fallen, behind, unless_behind, at_place, with_call, id_of}
+use Rattle.nt_rules.specs.outbox.Calls.{at_topic, noted_in}
 use Rattle.nt_rules.specs.outbox.Calls.{noted}
 use Rattle.nt_rules.specs.declared.act.Entry.{Entry}
 use Rattle.nt_rules.specs.declared.taken.Taken.{Taken}
@@ -26,14 +29,15 @@ use Rattle.nt_rules.specs.declared.start.Start.{Start}
 use Rattle.nt_rules.specs.history.Now.{is_there, now_of}
 use Rattle.nt_rules.specs.history.Metas.{all_lives}
 use Rattle.nt_rules.specs.history.Owed.{Account, account, accounted, owed_by, lives_weight, life_weight, weight_by}
-use Rattle.nt_rules.specs.history.Owed.{wish_for, wish_on, all_since}
+use Rattle.nt_rules.specs.history.Owed.{wish_for, wish_on, since_for}
 use Rattle.nt_rules.specs.history.Marks.{marks_owed}
 use Rattle.nt_rules.specs.declared.meta.Difference.{Difference}
 use Rattle.nt_rules.specs.declared.meta.Difference.TheVariants.{Began, Changed, Ended}
-use Rattle.nt_rules.specs.history.State.{told_differences, name_in, noted_all, published_to, set_to, taken_at}
-use Rattle.nt_rules.specs.history.State.{rewanted_all, meta_rewanted_all}
+use Rattle.nt_rules.specs.history.State.{Open, noted_differences, name_in, cached_in, noted_all, published_to, set_to}
+use Rattle.nt_rules.specs.history.State.{taken_at, turn_noted, rewanted_all, meta_rewanted_all}
 use Rattle.nt_rules.specs.history.Step.{Owes}
-use Rattle.nt_laws.proofs.marks.MarksById.{look, keep_opt, or_fresh, IsRising, KeepsId, look-at, rising-at, same-looks}
+use Rattle.nt_laws.proofs.marks.MarksById.{look, keep_opt, or_fresh, IsRising, KeepsId, look-at, rising-at}
+use Rattle.nt_laws.proofs.marks.MarksById.{same-looks}
 
 -- ---- calls as data
 
@@ -58,7 +62,7 @@ run (o ∷ ops) marks = run ops (at_op o marks)
 -- an outbox after a call for each of them, at one place
 abbrev pub called_all : ℕ → List Op → OutboxState → OutboxState
 called_all place [] b = b
-called_all place (o ∷ ops) b = called_all place ops (called place (at_op o) b)
+called_all place (o ∷ ops) b = called_all place ops (with_call place (at_op o) b)
 
 pub run-append : (xs ys : List Op) (marks : List Mark) → run (xs ++ ys) marks ≡ run ys (run xs marks)
 run-append [] ys marks = refl
@@ -67,38 +71,39 @@ run-append (x ∷ xs) ys marks = run-append xs ys (at_op x marks)
 pub called-append : (place : ℕ) (xs ys : List Op) (b : OutboxState) → called_all place (xs ++ ys) b
     ≡ called_all place ys (called_all place xs b)
 called-append place [] ys b = refl
-called-append place (x ∷ xs) ys b = called-append place xs ys (called place (at_op x) b)
+called-append place (x ∷ xs) ys b = called-append place xs ys (with_call place (at_op x) b)
 
 -- calls that do the same to all marks
 called-same : (place : ℕ) (f g : List Mark → List Mark) (b : OutboxState) → ((marks : List Mark) → f marks ≡ g marks)
-    → called place f b ≡ called place g b
+    → with_call place f b ≡ with_call place g b
 called-same place f g b same =
-    ap (λ marks. record (moved place b) { marks = cond (is_some (moved place b).fell) [] marks })
-    (same (moved place b).marks)
+    ap (λ marks. record (at_place place b) { marks = cond (is_some (at_place place b).fell) [] marks })
+    (same (at_place place b).marks)
 
 -- ---- what the server tells, as calls
 
-abbrev pub change_op : ℕ → (List ℕ → Wanted) → Change → Op
-change_op place wish (change.Started id name typ props) =
+-- a change of a topic, by whether topics are cached and how much they are wanted
+abbrev pub change_op : ℕ → (List ℕ → Bool) → (List ℕ → Wanted) → Change → Op
+change_op place cached wish (change.Started id name typ props) =
     record { id = id_of id; name = name; f = started (wish name) }
-change_op place wish (change.Changed id name time value) =
+change_op place cached wish (change.Changed id name time value) =
     record {
       id = id_of id;
       name = name;
       f = noted_value
-          (record { place = place; time = time; value = value }) (wish name);
+          (record { place = place; time = time; value = value }) (cached name) (wish name);
     }
-change_op place wish (change.Props id name update) =
+change_op place cached wish (change.Props id name update) =
     record {
       id = id_of id;
       name = name;
       f = noted_setting
           (record { place = place; is_own = false; update = update }) (wish name);
     }
-change_op place wish (change.Ended id name) = record { id = id_of id; name = name; f = ended place }
+change_op place cached wish (change.Ended id name) = record { id = id_of id; name = name; f = ended place }
 
-abbrev pub change_ops : ℕ → (List ℕ → Wanted) → List Change → List Op
-change_ops place wish changes = map (change_op place wish) changes
+abbrev pub change_ops : ℕ → (List ℕ → Bool) → (List ℕ → Wanted) → List Change → List Op
+change_ops place cached wish changes = map (change_op place cached wish) changes
 
 -- a change at a topic is one at its id
 topic-some : (id : ℤ) (name : List ℕ) (f : Mark → Mark) (marks : List Mark) → at_topic id name f marks
@@ -109,29 +114,44 @@ topic-some id name f marks = by (id_of id) refl
     by None e = rw e
     by (Some n) e = rw e
 
-noted-op : (place : ℕ) (wish : List ℕ → Wanted) (c : Change) (b : OutboxState)
-    → noted place c (wish (name_in c)) b ≡ called place (at_op (change_op place wish c)) b
-noted-op place wish c b =
-    called-same place (noted_in place c (wish (name_in c))) (at_op (change_op place wish c)) b
+noted-op : (place : ℕ) (cached : List ℕ → Bool) (wish : List ℕ → Wanted) (c : Change) (b : OutboxState)
+    → noted place c (cached (name_in c)) (wish (name_in c)) b
+    ≡ with_call place (at_op (change_op place cached wish c)) b
+noted-op place cached wish c b =
+    called-same place (noted_in place c (cached (name_in c)) (wish (name_in c)))
+    (at_op (change_op place cached wish c)) b
     (λ marks. same marks c)
   where
-    same : (marks : List Mark) (c : Change) → noted_in place c (wish (name_in c)) marks
-        ≡ at_op (change_op place wish c) marks
+    same : (marks : List Mark) (c : Change) → noted_in place c (cached (name_in c)) (wish (name_in c)) marks
+        ≡ at_op (change_op place cached wish c) marks
     same marks (change.Started id name typ props) = topic-some id name (started (wish name)) marks
     same marks (change.Changed id name time value) =
         topic-some id name
-        (noted_value (record { place = place; time = time; value = value }) (wish name)) marks
+        (noted_value (record { place = place; time = time; value = value }) (cached name) (wish name)) marks
     same marks (change.Props id name update) =
         topic-some id name
         (noted_setting (record { place = place; is_own = false; update = update }) (wish name)) marks
     same marks (change.Ended id name) = topic-some id name (ended place) marks
 
-pub noted-calls : (place : ℕ) (wish : List ℕ → Wanted) (changes : List Change) (b : OutboxState)
-    → noted_all place wish changes b ≡ called_all place (change_ops place wish changes) b
-noted-calls place wish [] b = refl
-noted-calls place wish (c ∷ changes) b =
-    ap (λ b. noted_all place wish changes b) (noted-op place wish c b)
-    ∙ noted-calls place wish changes (called place (at_op (change_op place wish c)) b)
+pub noted-calls : (place : ℕ) (ts : List Topic) (wish : List ℕ → Wanted) (changes : List Change) (b : OutboxState)
+    → noted_all place ts wish changes b ≡ called_all place (change_ops place (cached_in ts) wish changes) b
+noted-calls place ts wish [] b = refl
+noted-calls place ts wish (c ∷ changes) b =
+    ap (λ b. noted_all place ts wish changes b) (noted-op place (cached_in ts) wish c b)
+    ∙ noted-calls place ts wish changes (with_call place (at_op (change_op place (cached_in ts) wish c)) b)
+
+-- a turn
+abbrev pub turn_op : ℕ → Op
+turn_op id = record { id = Some id; name = []; f = turned }
+
+abbrev pub turn_ops : Option ℕ → List Op
+turn_ops None = []
+turn_ops (Some id) = turn_op id ∷ []
+
+pub turn-calls : (place : ℕ) (turn : Option ℕ) (o : Open)
+    → turn_noted place turn o ≡ record o { outbox = called_all place (turn_ops turn) o.outbox }
+turn-calls place None o = refl
+turn-calls place (Some id) o = refl
 
 -- the answer to a publish, and the wish for a topic that it began
 abbrev pub publish_ops : ℕ → Option Topic → ℤ → Bool → (List ℕ → Wanted) → List Op
@@ -142,7 +162,7 @@ publish_ops place (Some t) uid begins wish =
     (record {
       id = Some t.id;
       name = t.name;
-      f = rewanted (option_map (placed 0) t.value) No
+      f = rewanted (is_cached t.props) (option_map (placed 0) t.value) No
           (wish t.name);
     } ∷ []) []
 
@@ -176,7 +196,7 @@ rewanted_op taken old wish t =
     record {
       id = Some t.id;
       name = t.name;
-      f = rewanted (option_map (placed (taken_at t.id taken)) t.value)
+      f = rewanted (is_cached t.props) (option_map (placed (taken_at t.id taken)) t.value)
           (old t.name) (wish t.name);
     }
 
@@ -184,7 +204,7 @@ pub rewanted-calls : (place : ℕ) (taken : List Taken) (old wish : List ℕ →
     → rewanted_all place taken old wish ts b ≡ called_all place (map (rewanted_op taken old wish) ts) b
 rewanted-calls place taken old wish [] b = refl
 rewanted-calls place taken old wish (t ∷ ts) b =
-    rewanted-calls place taken old wish ts (called place (at_op (rewanted_op taken old wish t)) b)
+    rewanted-calls place taken old wish ts (with_call place (at_op (rewanted_op taken old wish t)) b)
 
 abbrev pub meta_op : (List ℕ → Wanted) → (List ℕ → Wanted) → MetaNow → Op
 meta_op old wish m = record { id = Some m.id; name = m.name; f = rewanted_meta (old m.name) (wish m.name) }
@@ -193,7 +213,7 @@ pub meta-calls : (place : ℕ) (old wish : List ℕ → Wanted) (ms : List MetaN
     → meta_rewanted_all place old wish ms b ≡ called_all place (map (meta_op old wish) ms) b
 meta-calls place old wish [] b = refl
 meta-calls place old wish (m ∷ ms) b =
-    meta-calls place old wish ms (called place (at_op (meta_op old wish m)) b)
+    meta-calls place old wish ms (with_call place (at_op (meta_op old wish m)) b)
 
 -- what is different of the meta topics
 abbrev pub difference_op : ℕ → (List ℕ → Wanted) → Difference → Op
@@ -204,14 +224,14 @@ difference_op place wish (Changed m) =
 difference_op place wish (Ended id) = record { id = Some id; name = []; f = ended place }
 
 pub told-calls : (place : ℕ) (wish : List ℕ → Wanted) (ds : List Difference) (b : OutboxState)
-    → told_differences place wish ds b ≡ called_all place (map (difference_op place wish) ds) b
+    → noted_differences place wish ds b ≡ called_all place (map (difference_op place wish) ds) b
 told-calls place wish [] b = refl
 told-calls place wish (Began m ∷ ds) b =
-    told-calls place wish ds (called place (at_op (difference_op place wish (Began m))) b)
+    told-calls place wish ds (with_call place (at_op (difference_op place wish (Began m))) b)
 told-calls place wish (Changed m ∷ ds) b =
-    told-calls place wish ds (called place (at_op (difference_op place wish (Changed m))) b)
+    told-calls place wish ds (with_call place (at_op (difference_op place wish (Changed m))) b)
 told-calls place wish (Ended id ∷ ds) b =
-    told-calls place wish ds (called place (at_op (difference_op place wish (Ended id))) b)
+    told-calls place wish ds (with_call place (at_op (difference_op place wish (Ended id))) b)
 
 -- ---- they keep ids
 
@@ -223,18 +243,20 @@ pub keep-append : (xs ys : List Op) → KeepIds xs → KeepIds ys → KeepIds (x
 keep-append [] ys h k = k
 keep-append (x ∷ xs) ys h k = (h.0, keep-append xs ys h.1 k)
 
-noted-id : (p : Placed) (wish : Wanted) → KeepsId (noted_value p wish)
-noted-id p No m = refl
-noted-id p TopicOnly m = refl
-noted-id p Newest m = refl
-noted-id p All m = refl
+noted-id : (p : Placed) (cached : Bool) (wish : Wanted) → KeepsId (noted_value p cached wish)
+noted-id p false wish m = refl
+noted-id p true No m = refl
+noted-id p true TopicOnly m = refl
+noted-id p true Newest m = refl
+noted-id p true All m = refl
 
-rewanted-id : (held : Option Placed) (old wish : Wanted) → KeepsId (rewanted held old wish)
-rewanted-id held old wish m = by (same_wish old wish) m _ refl
+rewanted-id : (cached : Bool) (held : Option Placed) (old wish : Wanted) → KeepsId (rewanted cached held old wish)
+rewanted-id cached held old wish m = by (same_wish old wish) cached m _ _ refl refl
   where
-    by : (b : Bool) (m n : Mark) → n.id ≡ m.id → (cond b m n).id ≡ m.id
-    by true m n e = refl
-    by false m n e = e
+    by : (b c : Bool) (m n k : Mark) → n.id ≡ m.id → k.id ≡ m.id → (cond b m (cond c n k)).id ≡ m.id
+    by true c m n k e f = refl
+    by false true m n k e f = e
+    by false false m n k e f = f
 
 meta-id : (old wish : Wanted) → KeepsId (rewanted_meta old wish)
 meta-id old wish m = by (same_wish (meta_wish old) (meta_wish wish)) m _ refl
@@ -243,22 +265,26 @@ meta-id old wish m = by (same_wish (meta_wish old) (meta_wish wish)) m _ refl
     by true m n e = refl
     by false m n e = e
 
-pub keep-changes : (place : ℕ) (wish : List ℕ → Wanted) (changes : List Change)
-    → KeepIds (change_ops place wish changes)
-keep-changes place wish [] = tt
-keep-changes place wish (c ∷ changes) = (by c, keep-changes place wish changes)
+pub keep-changes : (place : ℕ) (cached : List ℕ → Bool) (wish : List ℕ → Wanted) (changes : List Change)
+    → KeepIds (change_ops place cached wish changes)
+keep-changes place cached wish [] = tt
+keep-changes place cached wish (c ∷ changes) = (by c, keep-changes place cached wish changes)
   where
-    by : (c : Change) → KeepsId (change_op place wish c).f
+    by : (c : Change) → KeepsId (change_op place cached wish c).f
     by (change.Started id name typ props) m = refl
-    by (change.Changed id name time value) m = noted-id _ (wish name) m
+    by (change.Changed id name time value) m = noted-id _ (cached name) (wish name) m
     by (change.Props id name update) m = refl
     by (change.Ended id name) m = refl
+
+pub keep-turn : (turn : Option ℕ) → KeepIds (turn_ops turn)
+keep-turn None = tt
+keep-turn (Some id) = (λ m. refl, tt)
 
 pub keep-publish : (place : ℕ) (found : Option Topic) (uid : ℤ) (begins : Bool) (wish : List ℕ → Wanted)
     → KeepIds (publish_ops place found uid begins wish)
 keep-publish place None uid begins wish = tt
 keep-publish place (Some t) uid true wish =
-    (λ m. refl, (rewanted-id (option_map (placed 0) t.value) No (wish t.name), tt))
+    (λ m. refl, (rewanted-id (is_cached t.props) (option_map (placed 0) t.value) No (wish t.name), tt))
 keep-publish place (Some t) uid false wish = (λ m. refl, tt)
 
 pub keep-setting : (place : ℕ) (found : Option Topic) (update : Data)
@@ -270,7 +296,7 @@ pub keep-rewanted : (taken : List Taken) (old wish : List ℕ → Wanted) (ts : 
     → KeepIds (map (rewanted_op taken old wish) ts)
 keep-rewanted taken old wish [] = tt
 keep-rewanted taken old wish (t ∷ ts) = (
-  rewanted-id (option_map (placed (taken_at t.id taken)) t.value) (old t.name)
+  rewanted-id (is_cached t.props) (option_map (placed (taken_at t.id taken)) t.value) (old t.name)
       (wish t.name),
   keep-rewanted taken old wish ts,
 )
@@ -380,16 +406,16 @@ marks-run ops xs ys keep p q same =
 
 -- the first call of a place
 moved-later : (place : ℕ) (f : List Mark → List Mark) (b : OutboxState) → ltb b.place place ≡ true
-    → called place f b
+    → with_call place f b
     ≡ record b {
       place = place;
       fell = behind b;
       marks = cond (is_some (behind b)) []
-          (f (left (behind b) b.marks));
+          (f (unless_behind (behind b) b.marks));
     }
 moved-later place f b later =
     ap (λ t. let m : OutboxState = cond t
-    (record b { place = place; fell = behind b; marks = left (behind b) b.marks }) b in
+    (record b { place = place; fell = behind b; marks = unless_behind (behind b) b.marks }) b in
     record m { marks = cond (is_some m.fell) [] (f m.marks) }) later
 
 not-later : (place : ℕ) → ltb place place ≡ false
@@ -397,11 +423,12 @@ not-later place = grind (arith, nat_tests)
 
 -- a further call of it
 moved-here : (place : ℕ) (f : List Mark → List Mark) (failed : Bool) (fell : Option ℕ) (marks : List Mark)
-    → called place f (record { failed = failed; place = place; fell = fell; marks = marks })
+    → with_call place f (record { failed = failed; place = place; fell = fell; marks = marks })
     ≡ record { failed = failed; place = place; fell = fell; marks = cond (is_some fell) [] (f marks) }
 moved-here place f failed fell marks =
     ap (λ t. let b : OutboxState = record { failed = failed; place = place; fell = fell; marks = marks } in
-    let m : OutboxState = cond t (record b { place = place; fell = behind b; marks = left (behind b) b.marks }) b in
+    let m : OutboxState =
+    cond t (record b { place = place; fell = behind b; marks = unless_behind (behind b) b.marks }) b in
     record m { marks = cond (is_some m.fell) [] (f m.marks) }) (not-later place)
 
 calls-here : (place : ℕ) (ops : List Op) (failed : Bool) (marks : List Mark)
@@ -437,14 +464,14 @@ calls-do place [] b less none =
     unfallen (Some w) e = e
 calls-do place (o ∷ ops) b less none =
     let later : ltb b.place place ≡ true = grind (arith, nat_tests) in
-    let first : called place (at_op o) b
+    let first : with_call place (at_op o) b
     ≡ record { failed = b.failed; place = place; fell = None; marks = at_op o b.marks } =
     moved-later place (at_op o) b later
     ∙ ap (λ (w : Option ℕ). record b {
       place = place;
       fell = w;
       marks = cond (is_some w) []
-          (at_op o (left w b.marks));
+          (at_op o (unless_behind w b.marks));
     }) none
     in
     let whole = ap (λ b. called_all place ops b) first ∙ calls-here place ops b.failed (at_op o b.marks) in
@@ -462,14 +489,14 @@ pub calls-stay : (place : ℕ) (ops : List Op) (b : OutboxState) (w : ℕ) → b
 calls-stay place [] b w less e = record { still_well = refl; not_past = omega arith; still_behind = e }
 calls-stay place (o ∷ ops) b w less e =
     let later : ltb b.place place ≡ true = grind (arith, nat_tests) in
-    let first : called place (at_op o) b
+    let first : with_call place (at_op o) b
     ≡ record { failed = b.failed; place = place; fell = Some w; marks = [] } =
     moved-later place (at_op o) b later
     ∙ ap (λ (w : Option ℕ). record b {
       place = place;
       fell = w;
       marks = cond (is_some w) []
-          (at_op o (left w b.marks));
+          (at_op o (unless_behind w b.marks));
     }) e
     in
     let whole = ap (λ b. called_all place ops b) first ∙ calls-behind place ops b.failed w in
@@ -490,17 +517,17 @@ lives-weight-fell a fell conn wish since (l ∷ lives) =
 abbrev pub weight_left : Start → List Entry → ℕ → ℕ
 weight_left start past conn =
     lives_weight (account start past conn) conn (wish_on (wish_for start past conn))
-    (λ l. all_since start past conn l.name) (all_lives start past)
+    (since_for start past conn) (all_lives start past)
 
--- the changes of an entry's calls make of the marks before it those after it: so an outbox that was told of
--- them holds what is owed after it
-pub owes-called : (start : Start) (past : List Entry) (e : Entry) (conn : ℕ) (ops : List Op) (b : OutboxState)
+-- the changes of an entry's calls make of the marks before it those after it, where it wasn't behind: so an outbox that
+-- was told of them holds what is owed after it
+pub owes-where : (start : Start) (past : List Entry) (e : Entry) (conn : ℕ) (ops : List Op) (b : OutboxState)
     → Owes start past conn b
     → is_there (now_of start (e ∷ past)).connections conn ≡ true
-    → run ops (marks_owed start past conn) ≡ marks_owed start (e ∷ past) conn
+    → ((account start past conn).fell ≡ None → run ops (marks_owed start past conn) ≡ marks_owed start (e ∷ past) conn)
     → weight (marks_owed start (e ∷ past) conn) ≡ weight_left start (e ∷ past) conn
     → Owes start (e ∷ past) conn (called_all (length past + 1) ops b)
-owes-called start past e conn ops b owes there marks weighs = by (behind b) refl
+owes-where start past e conn ops b owes there marks weighs = by (behind b) refl
   where
     place : ℕ
     place = length past + 1
@@ -523,7 +550,7 @@ owes-called start past e conn ops b owes there marks weighs = by (behind b) refl
     all-weighed none =
         ap (λ n. fallen None n)
         (lives-weight-fell next (account start (e ∷ past) conn).fell conn
-        (wish_on (wish_for start (e ∷ past) conn)) (λ l. all_since start (e ∷ past) conn l.name)
+        (wish_on (wish_for start (e ∷ past) conn)) (since_for start (e ∷ past) conn)
         (all_lives start (e ∷ past)))
         ∙ sym (open_weight (is_there (now_of start (e ∷ past)).connections conn) there before.fell none)
       where
@@ -531,26 +558,26 @@ owes-called start past e conn ops b owes there marks weighs = by (behind b) refl
             → fallen fell
             (cond (t && is_none fell)
             (lives_weight next conn (wish_on (wish_for start (e ∷ past) conn))
-            (λ l. all_since start (e ∷ past) conn l.name) (all_lives start (e ∷ past))) 0)
+            (since_for start (e ∷ past) conn) (all_lives start (e ∷ past))) 0)
             ≡ fallen None
             (lives_weight next conn (wish_on (wish_for start (e ∷ past) conn))
-            (λ l. all_since start (e ∷ past) conn l.name) (all_lives start (e ∷ past)))
+            (since_for start (e ∷ past) conn) (all_lives start (e ∷ past)))
         open_weight t h None none =
             ap (λ t. fallen None
             (cond (t && true)
             (lives_weight next conn (wish_on (wish_for start (e ∷ past) conn))
-            (λ l. all_since start (e ∷ past) conn l.name) (all_lives start (e ∷ past))) 0)) h
+            (since_for start (e ∷ past) conn) (all_lives start (e ∷ past))) 0)) h
         open_weight t h (Some w) none = absurd (none-some w (sym none))
 
     by : (w : Option ℕ) → behind b ≡ w → Owes start (e ∷ past) conn after
     by None none =
         let d : Does place ops b after = calls-do place ops b less none in
         let held : b.marks ≡ marks_owed start past conn =
-        sym (ap (λ w. left w b.marks) none) ∙ owes.marks_are
-        ∙ ap (λ w. left w (marks_owed start past conn)) none
+        sym (ap (λ w. unless_behind w b.marks) none) ∙ owes.marks_are
+        ∙ ap (λ w. unless_behind w (marks_owed start past conn)) none
         in
         let now : after.marks ≡ marks_owed start (e ∷ past) conn =
-        d.marks_are ∙ ap (λ ms. run ops ms) held ∙ marks in
+        d.marks_are ∙ ap (λ ms. run ops ms) held ∙ marks (sym owes.behind_is ∙ none) in
         record {
           is_well = d.still_well ∙ owes.is_well;
           not_later = let le = d.not_past in omega arith;
@@ -558,7 +585,7 @@ owes-called start past e conn ops b owes there marks weighs = by (behind b) refl
               ap (λ fell. fallen fell (weight after.marks)) d.not_fell
               ∙ ap (λ ms. fallen None (weight ms)) now ∙ ap (λ n. fallen None n) weighs
               ∙ all-weighed (sym owes.behind_is ∙ none);
-          marks_are = ap (λ ms. left (behind after) ms) now;
+          marks_are = ap (λ ms. unless_behind (behind after) ms) now;
         }
     by (Some w) some =
         let s : Stays place w b after = calls-stay place ops b w less some in
@@ -570,6 +597,15 @@ owes-called start past e conn ops b owes there marks weighs = by (behind b) refl
               ∙ sym (ap (λ fell. fallen fell (weight_by next start (e ∷ past) conn))
               (sym owes.behind_is ∙ some));
           marks_are =
-              ap (λ w. left w after.marks) s.still_behind
-              ∙ sym (ap (λ w. left w (marks_owed start (e ∷ past) conn)) s.still_behind);
+              ap (λ w. unless_behind w after.marks) s.still_behind
+              ∙ sym (ap (λ w. unless_behind w (marks_owed start (e ∷ past) conn)) s.still_behind);
         }
+
+pub owes-called : (start : Start) (past : List Entry) (e : Entry) (conn : ℕ) (ops : List Op) (b : OutboxState)
+    → Owes start past conn b
+    → is_there (now_of start (e ∷ past)).connections conn ≡ true
+    → run ops (marks_owed start past conn) ≡ marks_owed start (e ∷ past) conn
+    → weight (marks_owed start (e ∷ past) conn) ≡ weight_left start (e ∷ past) conn
+    → Owes start (e ∷ past) conn (called_all (length past + 1) ops b)
+owes-called start past e conn ops b owes there marks weighs =
+    owes-where start past e conn ops b owes there (λ well. marks) weighs

@@ -141,18 +141,18 @@ pub owes-acted : (start : Start) (past : List Entry) (s : State) (worker now : �
     → IsKeptOf s (now_of start past) → AllOwe start past s.opens
     → AllOwe start (answered start past worker now a ∷ past) (acted s worker now a).opens
 owes-acted start past s worker now (act.Open name version) fit may legal kept owe =
-    owes-open start past s worker now fit.few legal kept owe name version
+    owes-open start past s worker now fit legal kept owe name version
 owes-acted start past s worker now (act.Said conn m) fit may legal kept owe =
     owes-said-act start past s worker now conn fit legal kept owe m
     (legal-answered start past worker now (act.Said conn m) may legal)
 owes-acted start past s worker now (act.Drain conn budget) fit may legal kept owe =
     owes-drain start past s worker now conn budget fit legal kept owe
 owes-acted start past s worker now (act.Close conn) fit may legal kept owe =
-    owes-close start past s worker now fit.few legal kept owe conn
+    owes-close start past s worker now fit legal kept owe conn
 owes-acted start past s worker now act.Permit fit may legal kept owe =
-    owes-permit start past s worker now fit.few legal kept owe
+    owes-permit start past s worker now fit legal kept owe
 owes-acted start past s worker now act.Shut fit may legal kept owe =
-    owes-shut start past s worker now fit.few legal kept owe
+    owes-shut start past s worker now fit legal kept owe
 
 -- what is answered by what is kept is the answer
 pub reply-acted : (start : Start) (past : List Entry) (s : State) (worker now : ℕ) (a : Act)

@@ -12,7 +12,7 @@ use Rattle.nt_rules.specs.declared.start.Start.{Start}
 use Rattle.nt_rules.specs.history.Now.{Now, open_ones}
 use Rattle.nt_rules.specs.history.Metas.{metas_now}
 use Rattle.nt_rules.specs.declared.meta.Difference.{Difference}
-use Rattle.nt_rules.specs.history.State.{differences, metas_kept, refreshed, told_differences, with_outbox}
+use Rattle.nt_rules.specs.history.State.{differences, open_metas, refreshed, noted_differences, with_outbox}
 use Rattle.nt_rules.specs.history.Step.{plain, plain_of, Owes, AllOwe}
 use Rattle.nt_laws.proofs.topics.ItemFacts.{map-both}
 use Rattle.nt_laws.proofs.metas.Rosters.{roster-kept}
@@ -22,10 +22,10 @@ use Rattle.nt_laws.proofs.outboxes.OpenConnections.{all-owe}
 -- the meta topics of what is kept are those of the history
 pub metas-kept-by : (opens : List Open) (ts : List Topic) (n : Now) → map plain opens
     ≡ map plain_of (open_ones n.connections)
-    → ts ≡ topics n.lives → metas_kept opens ts ≡ metas_now n
-unfolding metas_kept
+    → ts ≡ topics n.lives → open_metas opens ts ≡ metas_now n
+unfolding open_metas
 metas-kept-by opens ts n same topics_are =
-    ap (λ ts. metas_kept opens ts) topics_are
+    ap (λ ts. open_metas opens ts) topics_are
     ∙ ap (λ r. metas r) (roster-kept opens (open_ones n.connections) (topics n.lives) same)
 
 -- the connection with the calls of these changes done to its outbox
@@ -48,7 +48,7 @@ told-owe start past after place h ops does P each opens all owe =
 pub refreshed-owe : (start : Start) (past after : List Entry) (place : ℕ) (before : List MetaNow)
     (ts : List Topic) (h : Open → Open) (ops : Open → List Op)
     → ((o : Open) → h o ≡ with_calls place ops o) → (ds : List Difference) → (opens : List Open)
-    → differences before (metas_kept (map h opens) ts) ≡ ds → (P : Open → Type 0)
+    → differences before (open_metas (map h opens) ts) ≡ ds → (P : Open → Type 0)
     → ((o : Open) → P o → Owes start past o.conn o.outbox
     → Owes start after o.conn
     (called_all place (ops o ++ map (difference_op place (wanted o.subs)) ds) o.outbox))
@@ -60,7 +60,7 @@ refreshed-owe start past after place before ts h ops does ds opens differ P each
     (all-owe start past after P (λ o. tell ds (h o)) one opens all owe))
   where
     tell : List Difference → Open → Open
-    tell ds o = with_outbox (told_differences place (wanted o.subs) ds o.outbox) o
+    tell ds o = with_outbox (noted_differences place (wanted o.subs) ds o.outbox) o
 
     one : (o : Open) → P o → Owes start past o.conn o.outbox
         → Owes start after (tell ds (h o)).conn (tell ds (h o)).outbox

@@ -6,6 +6,7 @@ use Rattle.std.proofs.Common.{◌∙◌, ap, subst}
 use Rattle.std.proofs.lemmas.Slice.Eq.{bytes_eq-Decides}
 use Rattle.serde_json.specs.Data.{object, no_members}
 use Rattle.nt_values.specs.declared.value.Value.TheVariants.{Bytes}
+use Rattle.nt_topics.specs.Properties.{is_cached}
 use Rattle.nt_subs.specs.declared.wish.Wanted.{Wanted}
 use Rattle.nt_subs.specs.declared.wish.Wanted.TheVariants.{No, TopicOnly, Newest, All}
 use Rattle.nt_subs.specs.Wishes.{wanted}
@@ -14,7 +15,7 @@ use Rattle.nt_rules.specs.declared.meta.MetaNow.{MetaNow}
 use Rattle.nt_rules.specs.meta.Meta.{metas}
 use Rattle.nt_rules.specs.outbox.Marks.{Mark}
 use Rattle.nt_rules.specs.outbox.Keys.{Key}
-use Rattle.nt_rules.specs.outbox.Marks.{is_blank, is_meta, meta_wish}
+use Rattle.nt_rules.specs.outbox.Marks.{is_blank, is_meta, is_valued, meta_wish}
 use Rattle.nt_rules.specs.outbox.Calls.{OutboxState}
 use Rattle.nt_control.specs.declared.message.ClientMsg.TheVariants.{Publish, Unpublish, SetProps, Subscribe}
 use Rattle.nt_control.specs.declared.message.ClientMsg.TheVariants.{Unsubscribe}
@@ -31,15 +32,16 @@ use Rattle.nt_rules.specs.history.Now.{Now, is_there, is_open_for, open_ones, su
 use Rattle.nt_rules.specs.history.Now.{connections_after, lives_after, closed, after_deed}
 use Rattle.nt_rules.specs.history.Metas.{roster_of, metas_now, meta_at, same_bytes, meta_place, meta_life, meta_lives}
 use Rattle.nt_rules.specs.history.Metas.{all_lives}
-use Rattle.nt_rules.specs.history.Owed.{Account, account, owed_by, given_after, told_after, set_on, is_all, wish_for}
-use Rattle.nt_rules.specs.history.Owed.{wish_on, all_since}
-use Rattle.nt_rules.specs.history.Marks.{topic_mark, meta_mark, end_mark, mark_of, marks_by, marks_owed}
+use Rattle.nt_rules.specs.history.Owed.{Account, account, owed_by, given_after, settings_after, set_on, is_all}
+use Rattle.nt_rules.specs.history.Owed.{wish_for, wish_on, owed_cached, owed_uncached, owed_values, wanted_since}
+use Rattle.nt_rules.specs.history.Owed.{all_since, valued_since, since_for}
+use Rattle.nt_rules.specs.history.Marks.{waiting_put, topic_mark, meta_mark, end_mark, mark_of, marks_by, marks_owed}
 use Rattle.nt_rules.specs.history.Step.{Owes}
 use Rattle.nt_laws.proofs.histories.Facts.{IsNumberedLives, IsNumberedConnections}
 use Rattle.nt_laws.proofs.topics.ItemFacts.{each-all, map-same}
 use Rattle.nt_laws.proofs.metas.AllLives.{IsNumbered, never-all}
 use Rattle.nt_laws.proofs.metas.MetaRows.{meta_rows, meta-lives, life_of, rows_by, row_of_life, row_of_conn}
-use Rattle.nt_laws.proofs.outboxes.OutboxKeys.{wish_of, since_of, marks-weight}
+use Rattle.nt_laws.proofs.outboxes.OutboxKeys.{wish_of, marks-weight}
 use Rattle.nt_laws.proofs.outboxes.OutboxCalls.{owes-called}
 
 pub record IsQuiet (start : Start) (past : List Entry) (e : Entry) : Type 0 where
@@ -97,7 +99,9 @@ same-meta start past e same id name over =
       over = over;
       publishings = [];
       settings = [];
+      turn = 0;
       puts = record { place = place; time = 0; value = Bytes (unwrap_or (meta_at id ms) []) } ∷ [];
+      taken_before = [];
     }
 
 pub quiet-lives : (start : Start) (past : List Entry) (e : Entry) → IsQuiet start past e
@@ -121,71 +125,107 @@ quiet-lives start past e q =
 
 -- ---- marks
 
--- the place from which a topic has been wanted under All matters under All alone
+-- whether the place matters from which a life has been wanted so
+abbrev is_counted : Life → Wanted → Bool
+is_counted l wish = cond (is_cached l.props) (is_all wish) (is_valued wish)
+
+values-since : (a : Account) (wish : Wanted) (s t : ℕ) (l : Life) → (is_counted l wish ≡ true → s ≡ t)
+    → owed_values a wish s l ≡ owed_values a wish t l
+values-since a wish s t l h = by (is_cached l.props) h
+  where
+    cached : (w : Wanted) → (is_all w ≡ true → s ≡ t) → owed_cached a w s l ≡ owed_cached a w t l
+    cached No h = refl
+    cached TopicOnly h = refl
+    cached Newest h = refl
+    cached All h = ap (λ n. owed_cached a All n l) (h refl)
+
+    uncached : (b : Bool) → (b ≡ true → s ≡ t)
+        → cond b (owed_uncached a All s l) [] ≡ cond b (owed_uncached a All t l) []
+    uncached true h = ap (λ n. owed_uncached a All n l) (h refl)
+    uncached false h = refl
+
+    by : (b : Bool) → (cond b (is_all wish) (is_valued wish) ≡ true → s ≡ t)
+        → cond b (owed_cached a wish s l) (owed_uncached a wish s l)
+        ≡ cond b (owed_cached a wish t l) (owed_uncached a wish t l)
+    by true h = cached wish h
+    by false h = uncached (is_valued wish) h
+
 mark-since : (a : Account) (conn : ℕ) (wish : Life → Wanted) (s t : Life → ℕ) (l : Life)
-    → (is_all (wish l) ≡ true → s l ≡ t l)
+    → (is_counted l (wish l) ≡ true → s l ≡ t l)
     → mark_of a conn wish s l ≡ mark_of a conn wish t l
 mark-since a conn wish s t l h =
-    ap (λ m. cond (not (is_living l)) (end_mark a l) (cond (is_meta l.id) (meta_mark a (wish l) l) m))
-    (by (wish l) h)
-  where
-    by : (w : Wanted) → (is_all w ≡ true → s l ≡ t l)
-        → topic_mark a conn w (s l) l ≡ topic_mark a conn w (t l) l
-    by No h = refl
-    by TopicOnly h = refl
-    by Newest h = refl
-    by All h = ap (λ n. topic_mark a conn All n l) (h refl)
+    ap (λ ps. cond (not (is_living l)) (end_mark a l)
+    (cond (is_meta l.id) (meta_mark a (wish l) l)
+    (record (topic_mark a conn (wish l) (s l) l) { values = map waiting_put ps })))
+    (values-since a (wish l) (s l) (t l) l h)
 
-pub marks-since : (a : Account) (conn : ℕ) (wish : Life → Wanted) (s t : Life → ℕ) (lives : List Life)
-    → ((l : Life) → is_all (wish l) ≡ true → s l ≡ t l)
+marks-since : (a : Account) (conn : ℕ) (wish : Life → Wanted) (s t : Life → ℕ) (lives : List Life)
+    → ((l : Life) → is_counted l (wish l) ≡ true → s l ≡ t l)
     → marks_by a conn wish s lives ≡ marks_by a conn wish t lives
 marks-since a conn wish s t lives h =
     ap (filter (λ m. not (is_blank m))) (map-same (mark_of a conn wish s) (mark_of a conn wish t) lives
     (each-all _ (λ l. mark-since a conn wish s t l (h l)) lives))
 
--- a topic that was wanted under All has been so from where it had
-pub since-stays : (start : Start) (past : List Entry) (e : Entry) (conn : ℕ) (l : Life)
-    → is_all (wish_of start past conn l) ≡ true
-    → all_since start (e ∷ past) conn l.name ≡ all_since start past conn l.name
-since-stays start past e conn l h =
-    ap (λ b. cond b (all_since start past conn l.name) (length past + 1)) (by (is_meta l.id) h)
+-- a topic that was wanted so has been so from where it had
+since-stays : (start : Start) (past : List Entry) (e : Entry) (conn : ℕ) (l : Life)
+    → is_counted l (wish_of start past conn l) ≡ true
+    → since_for start (e ∷ past) conn l ≡ since_for start past conn l
+since-stays start past e conn l h = by (is_cached l.props) h
   where
+    wish : Wanted
+    wish = wish_for start past conn l.name
+
+    all : (b : Bool) → is_all (cond b (meta_wish wish) wish) ≡ true → is_all wish ≡ true
+    all true h = absurd (let never = never-all wish in cc)
+    all false h = h
+
+    valued : (b : Bool) (w : Wanted) → is_valued (cond b (meta_wish w) w) ≡ true → is_valued w ≡ true
+    valued true No h = h
+    valued true TopicOnly h = h
+    valued true Newest h = h
+    valued true All h = h
+    valued false w h = h
+
+    goes-on : (test : Wanted → Bool) → test wish ≡ true
+        → wanted_since test start (e ∷ past) conn l.name ≡ wanted_since test start past conn l.name
+    goes-on test h = ap (λ b. cond b (wanted_since test start past conn l.name) (length past + 1)) h
+
     by : (b : Bool)
-        → is_all (cond b (meta_wish (wish_for start past conn l.name)) (wish_for start past conn l.name))
-        ≡ true
-        → is_all (wish_for start past conn l.name) ≡ true
-    by true h = absurd (let never = never-all (wish_for start past conn l.name) in cc)
-    by false h = h
+        → cond b (is_all (wish_of start past conn l)) (is_valued (wish_of start past conn l)) ≡ true
+        → cond b (all_since start (e ∷ past) conn l.name) (valued_since start (e ∷ past) conn l.name)
+        ≡ cond b (all_since start past conn l.name) (valued_since start past conn l.name)
+    by true h = goes-on is_all (all (is_meta l.id) h)
+    by false h = goes-on is_valued (valued (is_meta l.id) wish h)
 
 -- the marks of an account after a quiet entry are those before it
 pub quiet-marks : (start : Start) (past : List Entry) (e : Entry) (conn : ℕ) → IsQuiet start past e
     → (a : Account)
     → marks_by a conn (wish_of start (e ∷ past) conn)
-    (since_of start (e ∷ past) conn) (all_lives start (e ∷ past))
-    ≡ marks_by a conn (wish_of start past conn) (since_of start past conn)
+    (since_for start (e ∷ past) conn) (all_lives start (e ∷ past))
+    ≡ marks_by a conn (wish_of start past conn) (since_for start past conn)
     (all_lives start past)
 quiet-marks start past e conn q a =
     ap (λ cs. marks_by a conn (wish_on (λ name. wanted (subs_of cs conn) name))
-    (since_of start (e ∷ past) conn) (all_lives start (e ∷ past))) q.connections_stay
+    (since_for start (e ∷ past) conn) (all_lives start (e ∷ past))) q.connections_stay
     ∙ ap (λ lives. marks_by a conn (wish_of start past conn)
-    (since_of start (e ∷ past) conn) lives) (quiet-lives start past e q)
-    ∙ marks-since a conn (wish_of start past conn) (since_of start (e ∷ past) conn)
-    (since_of start past conn) (all_lives start past) (λ l h. since-stays start past e conn l h)
+    (since_for start (e ∷ past) conn) lives) (quiet-lives start past e q)
+    ∙ marks-since a conn (wish_of start past conn) (since_for start (e ∷ past) conn)
+    (since_for start past conn) (all_lives start past) (λ l h. since-stays start past e conn l h)
 
 -- what an entry gave and told, that gave and told nothing
 pub quiet-owed : (start : Start) (past : List Entry) (e : Entry) (conn : ℕ) → IsQuiet start past e
     → (account start (e ∷ past) conn).given ≡ (account start past conn).given
-    → (account start (e ∷ past) conn).told_of ≡ (account start past conn).told_of
+    → (account start (e ∷ past) conn).told_settings ≡ (account start past conn).told_settings
     → marks_owed start (e ∷ past) conn ≡ marks_owed start past conn
 quiet-owed start past e conn q given told =
     quiet-marks start past e conn q (account start (e ∷ past) conn)
     ∙ ap (λ ks. marks
-    (record { given = ks; told_of = (account start (e ∷ past) conn).told_of; fell = None })) given
+    (record { given = ks; told_settings = (account start (e ∷ past) conn).told_settings; fell = None })) given
     ∙ ap (λ places. marks
-    (record { given = (account start past conn).given; told_of = places; fell = None })) told
+    (record { given = (account start past conn).given; told_settings = places; fell = None })) told
   where
     marks : Account → List Mark
-    marks a = marks_by a conn (wish_of start past conn) (since_of start past conn)
+    marks a = marks_by a conn (wish_of start past conn) (since_for start past conn)
         (all_lives start past)
 
 -- so an outbox that held what was owed holds it still
@@ -193,7 +233,7 @@ pub owes-still : (start : Start) (past : List Entry) (e : Entry) (conn : ℕ) (b
     → IsNumbered start (e ∷ past)
     → is_there (now_of start (e ∷ past)).connections conn ≡ true → IsQuiet start past e
     → (account start (e ∷ past) conn).given ≡ (account start past conn).given
-    → (account start (e ∷ past) conn).told_of ≡ (account start past conn).told_of
+    → (account start (e ∷ past) conn).told_settings ≡ (account start past conn).told_settings
     → Owes start past conn b → Owes start (e ∷ past) conn b
 owes-still start past e conn b n there q given told owes =
     owes-called start past e conn [] b owes there (sym (quiet-owed start past e conn q given told))
@@ -280,7 +320,7 @@ owes-idle start past e conn b n there idle owes =
     (idle-gives (now_of start past) e.worker e.conn e.deed idle
     ((e.conn == conn) && is_open_for (now_of start past).connections e.worker conn) before.given
     (owed_by before start past conn))
-    (ap (λ o. told_after before conn ((now_of start past).place + 1) e.conn o)
+    (ap (λ o. settings_after before (owed_by before start past conn) conn ((now_of start past).place + 1) e.conn o)
     (idle-sets (now_of start past) e.worker e.conn e.deed idle)) owes
   where
     before : Account

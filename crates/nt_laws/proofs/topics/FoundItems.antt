@@ -7,12 +7,12 @@ use Rattle.std.specs.List.{AllByRecursion, list_any, list_all, cons_option}
 use Rattle.std.proofs.lemmas.Bool.Decides.{nat_tests}
 use Rattle.std.proofs.lemmas.List.{reverse-append}
 use Rattle.std.proofs.lemmas.Slice.Eq.{bytes_eq-Decides}
+use Rattle.nt_topics.specs.Properties.{is_cached}
 use Rattle.nt_rules.specs.topics.Puts.{Put, taken}
 use Rattle.nt_rules.specs.topics.Topics.{is_named}
-use Rattle.nt_rules.specs.history.Lives.{Life, is_living, topic_of, topics}
-use Rattle.nt_laws.proofs.histories.Facts.{IsRising, AllBefore, Falling}
+use Rattle.nt_rules.specs.history.Lives.{Life, is_living, topic_of, topics, taken_since_turn}
+use Rattle.nt_laws.proofs.histories.Facts.{IsRising, AllBefore, Falling, before-since, falling-since}
 use Rattle.nt_laws.proofs.topics.OneName.{is_called, HasOneName}
-use Rattle.nt_laws.proofs.topics.TakenPuts.{before-taken, falling-taken}
 use Rattle.nt_laws.proofs.topics.ItemFacts.{each-more, each-both, each-reverse}
 
 -- ---- rising places
@@ -94,13 +94,21 @@ find-map {X} test f (x ∷ xs) = by (test (f x)) (find-map test f xs)
 
 -- ---- falling puts
 
-pub each-taken : (P : Put → Type 0) (ps : List Put) → AllByRecursion P ps → AllByRecursion P (taken ps)
+each-taken : (P : Put → Type 0) (ps : List Put) → AllByRecursion P ps → AllByRecursion P (taken ps)
 each-taken P [] h = tt
 each-taken P (p ∷ ps) h = by (list_all (λ q. leb q.time p.time) ps) (each-taken P ps h.1)
   where
     by : (b : Bool) → AllByRecursion P (taken ps) → AllByRecursion P (cond b (p ∷ taken ps) (taken ps))
     by true more = (h.0, more)
     by false more = more
+
+-- what holds of all puts since the turn holds of those that were taken
+pub each-since : (P : Put → Type 0) (l : Life) → AllByRecursion P l.puts → AllByRecursion P (taken_since_turn l)
+each-since P l h = by (is_cached l.props)
+  where
+    by : (b : Bool) → AllByRecursion P (cond b (taken l.puts) l.puts)
+    by true = each-taken P l.puts h
+    by false = h
 
 each-before : (n : ℕ) (ps : List Put) → AllBefore n ps → AllByRecursion (λ p. suc p.place ≤ n) ps
 each-before n [] h = tt
@@ -116,9 +124,10 @@ falling-rise n (p ∷ ps) h f =
     (rising-last (λ p. p.place) 0 n (reverse ps) p (omega arith) (omega arith)
     (each-reverse (λ q. suc q.place ≤ p.place) ps (each-before p.place ps f.0)) (falling-rise n ps h.1 f.1))
 
-pub taken-rise : (n : ℕ) (ps : List Put) → AllBefore (n + 1) ps → Falling ps
-    → IsRising (λ p. p.place) 0 n (reverse (taken ps))
-taken-rise n ps h f = falling-rise n (taken ps) (before-taken (n + 1) ps h) (falling-taken ps f)
+-- so do those that were taken since the turn
+pub since-rise : (n : ℕ) (l : Life) → AllBefore (n + 1) l.puts → Falling l.puts
+    → IsRising (λ p. p.place) 0 n (reverse (taken_since_turn l))
+since-rise n l h f = falling-rise n (taken_since_turn l) (before-since (n + 1) l h) (falling-since l f)
 
 pub put-found : (ps : List Put) → Falling ps
     → AllByRecursion (λ p. find (λ q. q.place == p.place) ps ≡ Some p) ps

@@ -15,6 +15,7 @@ use Rattle.nt_rules.specs.declared.start.Start.{Start}
 use Rattle.nt_rules.specs.history.Now.{now_of}
 use Rattle.nt_rules.specs.history.Saved.{HasDistinctNames}
 use Rattle.nt_laws.proofs.histories.Histories.{lives-keep}
+use Rattle.nt_laws.proofs.topics.Turns.{setting-name, setting-over}
 
 -- the life goes on under this name
 abbrev pub is_called : List ℕ → Life → Bool
@@ -199,7 +200,8 @@ lives-named start past distinct =
           (lessens-ended (k + 1) (without_publisher conn uid) (λ l. refl) (λ l. refl)) _;
       updated =
           λ k conn name u. one-at _
-          (lessens-ended (k + 1) (with_setting (k + 1) conn u) (λ l. refl) (λ l. refl)) _;
+          (lessens-ended (k + 1) (with_setting (k + 1) conn u) (setting-name (k + 1) conn u)
+          (setting-over (k + 1) conn u)) _;
       put = λ k conn uid time value. one-at
           (with_a_put (record { place = k + 1; time = time; value = value }))
           (record { same_name = λ l. refl; still = λ l e. e }) _;

@@ -21,6 +21,7 @@ use Rattle.nt_rules.specs.history.Metas.{pub_row}
 use Rattle.nt_laws.proofs.histories.Histories.{lives-keep}
 use Rattle.nt_laws.proofs.topics.Different.{AreDifferent, many, many-append, single-different}
 use Rattle.nt_laws.proofs.topics.OneName.{or-false}
+use Rattle.nt_laws.proofs.topics.Turns.{setting-by}
 
 -- ---- how many publishers have a uid
 
@@ -107,7 +108,10 @@ module _ (conn : ℕ) (uid : ℤ) where
   set-uses : (place sender : ℕ) (u : Data) (l : Life)
       → uses_of (or_ended place (with_setting place sender u l)) ≤ uses_of l + 0
   set-uses place sender u l =
-      let last = ended-uses place (with_setting place sender u l) in omega arith
+      let last = ended-uses place (with_setting place sender u l) in
+      let same : uses_of (with_setting place sender u l) ≡ uses_of l =
+      setting-by place sender u l (λ m. uses_of m ≡ uses_of l) refl refl in
+      omega arith
 
   closed-uses : (place sender : ℕ) (l : Life) → uses_of (closed_for place sender l) ≤ uses_of l
   closed-uses place sender l =

@@ -4,6 +4,7 @@ use Rattle.std.proofs.Common.{None, option_map, map, filter, refl, sym, ◌∙�
 use Rattle.std.specs.Prelude.{not}
 use Rattle.std.proofs.lemmas.Bool.Decides.{nat_tests}
 use Rattle.std.specs.List.{list_all}
+use Rattle.nt_topics.specs.Properties.{is_cached}
 use Rattle.nt_rules.specs.declared.topic.Timed.{Timed}
 use Rattle.nt_rules.specs.declared.topic.Topic.{Topic}
 use Rattle.nt_rules.specs.declared.topic.Cause.{Cause}
@@ -101,6 +102,17 @@ same-held ps qs differ same = by (greatest ps) (greatest-is ps) (greatest qs) (g
         let down = a.is_most (timed q) ((same (timed q)).1 b.is_in) in
         ap Some (differ (timed p) (timed q) a.is_in ((same (timed q)).1 b.is_in) (omega arith))
 
+-- ---- puts to a topic
+
+-- what holds whether a topic is cached or not
+valued-by : (s : Sent) (t : Topic) (P : Topic → Type 0)
+    → P (record t { value = Some (timed s.put) }) → P t → P (with_value s.put.time s.put.value t)
+valued-by s t P valued same = by (is_cached t.props)
+  where
+    by : (b : Bool) → P (cond b (record t { value = Some (timed s.put) }) t)
+    by true = valued
+    by false = same
+
 -- a put changes the value alone, and so neither the type nor the publishers
 put-fits : (s r : Sent) (t : Topic) → is_fit r.conn r.uid r.put.value (put_to s t) ≡ is_fit r.conn r.uid r.put.value t
 put-fits s r t = by (put_cause_to s.conn s.uid s.put.time s.put.value t)
@@ -108,7 +120,8 @@ put-fits s r t = by (put_cause_to s.conn s.uid s.put.time s.put.value t)
     by : (cause : Option Cause)
         → is_fit r.conn r.uid r.put.value (if_counts cause (with_value s.put.time s.put.value t) t)
         ≡ is_fit r.conn r.uid r.put.value t
-    by None = refl
+    by None =
+        valued-by s t (λ (u : Topic). is_fit r.conn r.uid r.put.value u ≡ is_fit r.conn r.uid r.put.value t) refl refl
     by (Some cause) = refl
 
 after-fits : (r : Sent) (sent : List Sent) (t : Topic)
@@ -116,50 +129,87 @@ after-fits : (r : Sent) (sent : List Sent) (t : Topic)
 after-fits r [] t = refl
 after-fits r (s ∷ sent) t = put-fits s r (after_puts sent t) ∙ after-fits r sent t
 
+-- nor the properties
+put-props : (s : Sent) (t : Topic) → (put_to s t).props ≡ t.props
+put-props s t = by (put_cause_to s.conn s.uid s.put.time s.put.value t)
+  where
+    by : (cause : Option Cause) → (if_counts cause (with_value s.put.time s.put.value t) t).props ≡ t.props
+    by None = valued-by s t (λ (u : Topic). u.props ≡ t.props) refl refl
+    by (Some cause) = refl
+
+after-props : (sent : List Sent) (t : Topic) → (after_puts sent t).props ≡ t.props
+after-props [] t = refl
+after-props (s ∷ sent) t = put-props s (after_puts sent t) ∙ after-props sent t
+
 -- a put that doesn't fit changes nothing
 unfit-put : (s : Sent) (t : Topic) → is_fit s.conn s.uid s.put.value t ≡ false → put_to s t ≡ t
 unfit-put s t e =
     ap (λ b. if_counts (cond b (cond (is_older s.put.time t.value) (Some Older) None) (Some OtherType))
     (with_value s.put.time s.put.value t) t) e
 
--- one that fits leaves the greater of it and what was held
-fit-put : (s : Sent) (t : Topic) (ps : List Put) → is_fit s.conn s.uid s.put.value t ≡ true → t.value ≡ held ps
+-- one that fits leaves the greater of it and what was held, where the topic is cached
+fit-put : (s : Sent) (t : Topic) (ps : List Put) → is_cached t.props ≡ true → is_fit s.conn s.uid s.put.value t ≡ true
+    → t.value ≡ held ps
     → (put_to s t).value ≡ held (s.put ∷ ps)
-fit-put s t ps e h =
+fit-put s t ps cached e h =
     ap (λ b. (if_counts (cond b (cond (is_older s.put.time t.value) (Some Older) None) (Some OtherType))
     (with_value s.put.time s.put.value t) t).value) e
+    ∙ ap (λ b. (if_counts (cond (is_older s.put.time t.value) (Some Older) None) (cond b valued t) t).value) cached
     ∙ by (greatest ps) h
   where
+    valued : Topic
+    valued = record t { value = Some (timed s.put) }
+
     older : (g : Put) (b : Bool) → t.value ≡ Some (timed g)
-        → (if_counts (cond b (Some Older) None) (with_value s.put.time s.put.value t) t).value
+        → (if_counts (cond b (Some Older) None) valued t).value
         ≡ Some (timed (cond b g s.put))
     older g true h = h
     older g false h = refl
 
     by : (g : Option Put) → t.value ≡ option_map timed g
-        → (if_counts (cond (is_older s.put.time t.value) (Some Older) None)
-        (with_value s.put.time s.put.value t) t).value
+        → (if_counts (cond (is_older s.put.time t.value) (Some Older) None) valued t).value
         ≡ Some (timed (greater s.put g))
     by None h =
-        ap (λ v. (if_counts (cond (is_older s.put.time v) (Some Older) None)
-        (with_value s.put.time s.put.value t) t).value) h
+        ap (λ v. (if_counts (cond (is_older s.put.time v) (Some Older) None) valued t).value) h
     by (Some g) h =
-        ap (λ v. (if_counts (cond (is_older s.put.time v) (Some Older) None)
-        (with_value s.put.time s.put.value t) t).value) h
+        ap (λ v. (if_counts (cond (is_older s.put.time v) (Some Older) None) valued t).value) h
         ∙ older g (ltb s.put.time g.time) h
 
--- after any puts a topic holds the greatest of those that fit, and of the earlier ones
-pub greatest-held : (t : Topic) (earlier : List Put) (sent : List Sent) → t.value ≡ held earlier
+-- after any puts a cached topic holds the greatest of those that fit, and of the earlier ones
+pub greatest-held : (t : Topic) (earlier : List Put) (sent : List Sent) → is_cached t.props ≡ true
+    → t.value ≡ held earlier
     → (after_puts sent t).value ≡ held (fitting sent t ++ earlier)
-greatest-held t earlier [] h = h
-greatest-held t earlier (s ∷ sent) h = by (greatest-held t earlier sent h) (is_fit s.conn s.uid s.put.value t) refl
+greatest-held t earlier [] cached h = h
+greatest-held t earlier (s ∷ sent) cached h =
+    by (greatest-held t earlier sent cached h) (is_fit s.conn s.uid s.put.value t) refl
   where
+    still : is_cached (after_puts sent t).props ≡ true
+    still = ap is_cached (after-props sent t) ∙ cached
+
     by : (after_puts sent t).value ≡ held (fitting sent t ++ earlier) → (b : Bool)
         → is_fit s.conn s.uid s.put.value t ≡ b
         → (put_to s (after_puts sent t)).value
         ≡ held (map (λ r. r.put)
         (cond b (s ∷ filter (λ r. is_fit r.conn r.uid r.put.value t) sent)
         (filter (λ r. is_fit r.conn r.uid r.put.value t) sent)) ++ earlier)
-    by rest true e = fit-put s (after_puts sent t) (fitting sent t ++ earlier) (after-fits s sent t ∙ e) rest
+    by rest true e =
+        fit-put s (after_puts sent t) (fitting sent t ++ earlier) still (after-fits s sent t ∙ e) rest
     by rest false e =
         ap (λ (u : Topic). u.value) (unfit-put s (after_puts sent t) (after-fits s sent t ∙ e)) ∙ rest
+
+-- one that isn't cached stays as it was
+pub uncached-stays : (t : Topic) (sent : List Sent) → is_cached t.props ≡ false → (after_puts sent t).value ≡ t.value
+uncached-stays t [] e = refl
+uncached-stays t (s ∷ sent) e =
+    by (put_cause_to s.conn s.uid s.put.time s.put.value (after_puts sent t)) ∙ uncached-stays t sent e
+  where
+    before : Topic
+    before = after_puts sent t
+
+    still : is_cached before.props ≡ false
+    still = ap is_cached (after-props sent t) ∙ e
+
+    by : (cause : Option Cause)
+        → (if_counts cause (with_value s.put.time s.put.value before) before).value ≡ before.value
+    by None = ap (λ b. (cond b (record before { value = Some (timed s.put) }) before).value) still
+    by (Some cause) = refl

@@ -4,12 +4,12 @@ use Rattle.std.specs.Prelude.{ℕ, ℤ, Bool, List, [], ◌∷◌, ◌++◌, Opt
 use Rattle.std.specs.List.{filter_map}
 use Rattle.serde_json.specs.Data.{Data}
 use Rattle.nt_values.specs.declared.value.Value.{Value}
-use Rattle.nt_topics.specs.Properties.{updated}
+use Rattle.nt_topics.specs.Properties.{updated, is_cached}
 use Rattle.nt_rules.specs.declared.topic.Pub.{Pub}
 use Rattle.nt_rules.specs.declared.topic.Topic.{Topic}
 use Rattle.nt_rules.specs.declared.topic.Saved.{Saved}
 use Rattle.nt_rules.specs.topics.Puts.{Put, greatest, taken, timed}
-use Rattle.nt_rules.specs.topics.Topics.{lives_on, is_publisher, is_of, has_conn}
+use Rattle.nt_rules.specs.topics.Topics.{lives_on, is_publisher, is_of, has_conn, is_turned}
 
 -- a publish that counted: the place of its entry, the connection and the uid
 pub record Publishing : Type 0 where
@@ -23,7 +23,9 @@ pub record Setting : Type 0 where
   pub conn : ℕ
   pub update : Data
 
--- a life. Its publishings and settings stand oldest first, its puts newest first
+-- a life. Its publishings and settings stand oldest first, its puts newest first. It turns where it begins and where an
+-- update changes whether it is cached: `puts` are those made since its last turn, at the place `turn`, and
+-- `taken_before` those that were taken before it
 pub record Life : Type 0 where
   pub id : ℕ
   pub name : List ℕ
@@ -33,15 +35,22 @@ pub record Life : Type 0 where
   pub over : Option ℕ
   pub publishings : List Publishing
   pub settings : List Setting
+  pub turn : ℕ
   pub puts : List Put
+  pub taken_before : List Put
 
--- the held put: the greatest by time, and then by place
+-- the held put: of a cached topic the greatest since its turn, by time and then by place. One that isn't cached holds
+-- none
 abbrev pub held_of : Life → Option Put
-held_of l = greatest l.puts
+held_of l = if is_cached l.props then greatest l.puts else None
 
--- the puts that were taken, newest first
+-- the puts that were taken since the turn, newest first: of a topic that isn't cached all
+abbrev pub taken_since_turn : Life → List Put
+taken_since_turn l = if is_cached l.props then taken l.puts else l.puts
+
+-- all puts that were taken, newest first
 abbrev pub taken_of : Life → List Put
-taken_of l = taken l.puts
+taken_of l = taken_since_turn l ++ l.taken_before
 
 abbrev pub is_living : Life → Bool
 is_living l = is_none l.over
@@ -49,15 +58,22 @@ is_living l = is_none l.over
 -- the topic as it is now
 abbrev pub topic_of : Life → Topic
 topic_of l =
-    record { id = l.id; name = l.name; typ = l.typ; props = l.props; value = option_map timed (held_of l); pubs = l.pubs }
+    record {
+      id = l.id;
+      name = l.name;
+      typ = l.typ;
+      props = l.props;
+      value = option_map timed (held_of l);
+      pubs = l.pubs;
+    }
 
 -- the topic of a life that goes on
-abbrev pub seen : Life → Option Topic
-seen l = if is_living l then Some (topic_of l) else None
+abbrev pub living_topic : Life → Option Topic
+living_topic l = if is_living l then Some (topic_of l) else None
 
 -- the living topics, by rising id
 abbrev pub topics : List Life → List Topic
-topics lives = filter_map seen lives
+topics lives = filter_map living_topic lives
 
 -- ---- what happens to a life at a place
 
@@ -93,7 +109,9 @@ born place id name typ props p =
       over = None;
       publishings = record { place = place; conn = p.conn; uid = p.uid } ∷ [];
       settings = [];
+      turn = place;
       puts = [];
+      taken_before = [];
     }
 
 abbrev pub without_publisher : ℕ → ℤ → Life → Life
@@ -102,9 +120,17 @@ without_publisher conn uid l = record l { pubs = filter (λ p. not (is_publisher
 abbrev pub without_conn : ℕ → Life → Life
 without_conn conn l = record l { pubs = filter (λ p. not (is_of conn p)) l.pubs }
 
+-- it turns at a place
+abbrev pub turned_at : ℕ → Life → Life
+turned_at place l = record l { turn = place; puts = []; taken_before = taken_of l }
+
+-- it turns where this update changes whether it is cached
+abbrev pub turned_by : ℕ → Data → Life → Life
+turned_by place u l = if is_turned l.props (updated l.props u) then turned_at place l else l
+
 abbrev pub with_setting : ℕ → ℕ → Data → Life → Life
 with_setting place conn u l =
-    record l {
+    record (turned_by place u l) {
       props = updated l.props u;
       settings = l.settings ++ record { place = place; conn = conn; update = u } ∷ [];
     }
@@ -137,7 +163,9 @@ restored_life id s =
       over = None;
       publishings = [];
       settings = [];
+      turn = 0;
       puts = restored_put s.value;
+      taken_before = [];
     }
 
 -- the lives of restored topics, from an id on

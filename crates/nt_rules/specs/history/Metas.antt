@@ -98,21 +98,27 @@ meta_life start past id name over =
       over = over;
       publishings = [];
       settings = [];
+      turn = 0;
       puts = record {
         place = meta_place start past id;
         time = 0;
         value = Bytes (unwrap_or (meta_at id (metas_now (now_of start past))) []);
       } ∷ [];
+      taken_before = [];
     }
 
--- the lives of all meta topics, by rising id: two live as long as each topic, two as long as each connection is open, and
--- three always
+-- the lives of all meta topics, by rising id: two live as long as each topic, two as long as each connection is open,
+-- and three always
 abbrev pub meta_lives : Start → List Entry → List Life
 meta_lives start past =
-    map (λ l. meta_life start past (of_topic_publishers + l.id) (codes "$pub$" ++ l.name) l.over) (now_of start past).lives
-    ++ map (λ l. meta_life start past (of_topic_subscriptions + l.id) (codes "$sub$" ++ l.name) l.over) (now_of start past).lives
-    ++ map (λ c. meta_life start past (of_client_publishers + c.number) (codes "$client_pub$" ++ c.name) c.over) (now_of start past).connections
-    ++ map (λ c. meta_life start past (of_client_subscriptions + c.number) (codes "$client_sub$" ++ c.name) c.over) (now_of start past).connections
+    map (λ l. meta_life start past (of_topic_publishers + l.id) (codes "$pub$" ++ l.name) l.over)
+    (now_of start past).lives
+    ++ map (λ l. meta_life start past (of_topic_subscriptions + l.id) (codes "$sub$" ++ l.name) l.over)
+    (now_of start past).lives
+    ++ map (λ c. meta_life start past (of_client_publishers + c.number) (codes "$client_pub$" ++ c.name) c.over)
+    (now_of start past).connections
+    ++ map (λ c. meta_life start past (of_client_subscriptions + c.number) (codes "$client_sub$" ++ c.name) c.over)
+    (now_of start past).connections
     ++ meta_life start past (of_server + 1) (codes "$clients") None
     ∷ meta_life start past (of_server + 2) (codes "$server_pub") None
     ∷ meta_life start past (of_server + 3) (codes "$server_sub") None

@@ -27,8 +27,8 @@ pub record Connection : Type 0 where
   pub subs : Subs
   pub over : Option ℕ
 
--- the present: how many entries there are, the last moment, the permits and how many were granted, whether the server is
--- shut, all connections by rising number, and all lives by rising id
+-- the present: how many entries there are, the last moment, the permits and how many were granted, whether the server
+-- is shut, all connections by rising number, and all lives by rising id
 pub record Now : Type 0 where
   pub place : ℕ
   pub moment : ℕ

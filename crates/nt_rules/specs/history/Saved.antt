@@ -8,7 +8,7 @@ use Rattle.serde_json.specs.Written.{compact_text}
 use Rattle.nt_values.specs.declared.value.Value.{Value}
 use Rattle.nt_values.specs.Types.{size_of}
 use Rattle.nt_topics.specs.Names.{is_special}
-use Rattle.nt_topics.specs.Properties.{is_persistent}
+use Rattle.nt_topics.specs.Properties.{is_persistent, is_cached}
 use Rattle.nt_rules.specs.Limits.{most_topics, most_properties, most_value}
 use Rattle.nt_rules.specs.declared.topic.Topic.{Topic}
 use Rattle.nt_rules.specs.declared.topic.Saved.{Saved}
@@ -21,12 +21,13 @@ abbrev pub HasDistinctNames : List Saved → Type 0
 HasDistinctNames [] = Unit {0}
 HasDistinctNames (s ∷ saved) = (list_any (λ r. bytes_eq r.name s.name) saved ≡ false) × HasDistinctNames saved
 
--- its name isn't special, its value is of its type and has a size of at most 131,072, and the compact text of
--- its properties has at most 65,536 bytes
+-- its name isn't special, its value is of its type and has a size of at most 131,072, it has one only where it is
+-- cached, and the compact text of its properties has at most 65,536 bytes
 pub record IsRestorable (s : Saved) : Type 0 where
   pub plain : is_special s.name ≡ false
   pub fits : is_saved_fit s.typ s.value ≡ true
   pub small : IfSome s.value (λ (v : Value). size_of v ≤ most_value)
+  pub held : IfSome s.value (λ (v : Value). is_cached s.props ≡ true)
   pub within : length (compact_text s.props) ≤ most_properties
 
 -- at most 16,384 topics with different names, each of which can be restored

@@ -1,6 +1,7 @@
 -- What a server keeps, what it answers by that, and what an act does to it.
-use Rattle.std.specs.Prelude.{ℕ, ℤ, Bool, true, false, max, List, [], ◌∷◌, ◌++◌, Option, Some, None, map, filter, not, ◌&&◌, ◌==◌, nat_lt, nat_le, ◌+◌, bytes_eq, if◌then◌else◌}
+use Rattle.std.specs.Prelude.{ℕ, ℤ, Bool, true, false, max, List, [], ◌∷◌, ◌++◌, Option, Some, None, is_some, option_map, unwrap_or, map, filter, not, ◌&&◌, ◌==◌, nat_lt, nat_le, ◌+◌, bytes_eq, if◌then◌else◌}
 use Rattle.std.specs.List.{list_any, find}
+use Rattle.nt_topics.specs.Properties.{is_cached}
 use Rattle.nt_control.specs.declared.message.ClientMsg.{ClientMsg}
 use Rattle.nt_control.specs.declared.message.ClientMsg.TheVariants.{Publish, Unpublish, SetProps, Subscribe, Unsubscribe}
 use Rattle.nt_subs.specs.declared.wish.Wanted.{Wanted}
@@ -13,14 +14,14 @@ use Rattle.nt_rules.specs.declared.topic.Change.{Change}
 use Rattle.nt_rules.specs.declared.topic.Change.TheVariants as change
 use Rattle.nt_rules.specs.declared.topic.Cause.{Cause}
 use Rattle.nt_rules.specs.declared.topic.Cause.TheVariants.{NoConn, ConnsSpent}
-use Rattle.nt_rules.specs.topics.Topics.{is_named, published, next_after, unpublished, with_put, with_props, dropped}
+use Rattle.nt_rules.specs.topics.Topics.{is_named, is_turned, published, next_after, unpublished, with_put, with_props, dropped}
 use Rattle.nt_rules.specs.topics.Changes.{publish_changes, unpublish_changes, update_changes, put_changes, drop_changes}
 use Rattle.nt_rules.specs.declared.roster.Roster.{Roster}
 use Rattle.nt_rules.specs.declared.roster.ConnRow.{ConnRow}
 use Rattle.nt_rules.specs.declared.meta.MetaNow.{MetaNow}
 use Rattle.nt_rules.specs.meta.Meta.{metas}
 use Rattle.nt_rules.specs.outbox.Marks.{is_empty}
-use Rattle.nt_rules.specs.outbox.Calls.{OutboxState, id_of, nothing_owed, behind, noted, replied_publish_to, replied_setting_to, rewanted_to, meta_rewanted, meta_changed, meta_ended, drained, drained_batch}
+use Rattle.nt_rules.specs.outbox.Calls.{OutboxState, id_of, nothing_owed, behind, noted, turned_to, replied_publish_to, replied_setting_to, rewanted_to, meta_rewanted, meta_changed, meta_ended, drained, drained_batch}
 use Rattle.nt_rules.specs.declared.act.Act.{Act}
 use Rattle.nt_rules.specs.declared.act.Act.TheVariants as act
 use Rattle.nt_rules.specs.declared.act.Msg.{Msg}
@@ -34,8 +35,8 @@ use Rattle.nt_rules.specs.history.Now.{said_cause}
 use Rattle.nt_rules.specs.history.Metas.{pub_rows, sub_row, life_row}
 use Rattle.nt_rules.specs.history.Answer.{given_name, said_out, drained_out}
 
--- an open connection: its number, the worker that serves it, the name that it was given, its subscriptions and what it is
--- owed
+-- an open connection: its number, the worker that serves it, the name that it was given, its subscriptions and what it
+-- is owed
 pub record Open : Type 0 where
   pub conn : ℕ
   pub worker : ℕ
@@ -44,8 +45,8 @@ pub record Open : Type 0 where
   pub outbox : OutboxState
 
 -- what a server keeps: the permits and how many were granted, whether it is shut, the last moment and how many entries
--- there are, how many connections were opened, the open ones by rising number, the living topics by rising id and the next
--- id, and for each topic whose value was taken the place of that, by rising id
+-- there are, how many connections were opened, the open ones by rising number, the living topics by rising id and the
+-- next id, and for each topic that holds a value the place at which it was taken, by rising id of the topics
 pub record State : Type 0 where
   pub permits : ℕ
   pub granted : ℕ
@@ -87,12 +88,12 @@ with_outbox b o = record o { outbox = b }
 abbrev pub open_row : List Topic → Open → ConnRow
 open_row ts o = record { conn = o.conn; name = o.name; pubs = pub_rows o.conn ts; subs = map sub_row o.subs }
 
-abbrev pub roster_kept : List Open → List Topic → Roster
-roster_kept opens ts = record { conns = map (open_row ts) opens; topics = map life_row ts }
+abbrev pub open_roster : List Open → List Topic → Roster
+open_roster opens ts = record { conns = map (open_row ts) opens; topics = map life_row ts }
 
 -- the living meta topics, by rising id
-unfoldable pub metas_kept : List Open → List Topic → List MetaNow
-metas_kept opens ts = metas (roster_kept opens ts)
+unfoldable pub open_metas : List Open → List Topic → List MetaNow
+open_metas opens ts = metas (open_roster opens ts)
 
 abbrev pub difference_of : MetaNow → MetaNow → List Difference
 difference_of before after = if bytes_eq before.bytes after.bytes then [] else Changed after ∷ []
@@ -111,19 +112,21 @@ differences [] after = map Began after
 differences (m ∷ before) after = differences_from (λ k. differences before k) m after
 
 -- what an outbox is told of a difference, whose connection wants topics so
-abbrev pub told_difference : ℕ → (List ℕ → Wanted) → Difference → OutboxState → OutboxState
-told_difference place wish (Began m) b = meta_rewanted place m No (wish m.name) b
-told_difference place wish (Changed m) b = meta_changed place m (wish m.name) b
-told_difference place wish (Ended id) b = meta_ended place id b
+abbrev pub noted_difference : ℕ → (List ℕ → Wanted) → Difference → OutboxState → OutboxState
+noted_difference place wish (Began m) b = meta_rewanted place m No (wish m.name) b
+noted_difference place wish (Changed m) b = meta_changed place m (wish m.name) b
+noted_difference place wish (Ended id) b = meta_ended place id b
 
-abbrev pub told_differences : ℕ → (List ℕ → Wanted) → List Difference → OutboxState → OutboxState
-told_differences place wish [] b = b
-told_differences place wish (d ∷ ds) b = told_differences place wish ds (told_difference place wish d b)
+abbrev pub noted_differences : ℕ → (List ℕ → Wanted) → List Difference → OutboxState → OutboxState
+noted_differences place wish [] b = b
+noted_differences place wish (d ∷ ds) b = noted_differences place wish ds (noted_difference place wish d b)
 
 -- the open connections are told what is different of the meta topics since they were these
 abbrev pub refreshed : ℕ → List MetaNow → List Topic → List Open → List Open
 refreshed place before ts opens =
-    map (λ o. with_outbox (told_differences place (wanted o.subs) (differences before (metas_kept opens ts)) o.outbox) o) opens
+    map
+    (λ o. with_outbox (noted_differences place (wanted o.subs) (differences before (open_metas opens ts)) o.outbox) o)
+    opens
 
 -- ---- changes
 
@@ -137,13 +140,22 @@ abbrev pub is_end : Change → Bool
 is_end (change.Ended id name) = true
 is_end c = false
 
--- an outbox is told of changes
-abbrev pub noted_all : ℕ → (List ℕ → Wanted) → List Change → OutboxState → OutboxState
-noted_all place wish [] b = b
-noted_all place wish (c ∷ changes) b = noted_all place wish changes (noted place c (wish (name_in c)) b)
+-- whether the topic of a name is cached, as each is that isn't there
+abbrev pub cached_in : List Topic → List ℕ → Bool
+cached_in ts name = unwrap_or (option_map (λ t. is_cached t.props) (find (is_named name) ts)) true
 
-abbrev pub told_changes : ℕ → List Change → Open → Open
-told_changes place changes o = with_outbox (noted_all place (wanted o.subs) changes o.outbox) o
+-- whether the topic of a name holds a value
+abbrev pub holds_in : List Topic → List ℕ → Bool
+holds_in ts name = unwrap_or (option_map (λ t. is_some t.value) (find (is_named name) ts)) false
+
+-- an outbox is told of changes, over the topics after them
+abbrev pub noted_all : ℕ → List Topic → (List ℕ → Wanted) → List Change → OutboxState → OutboxState
+noted_all place ts wish [] b = b
+noted_all place ts wish (c ∷ changes) b =
+    noted_all place ts wish changes (noted place c (cached_in ts (name_in c)) (wish (name_in c)) b)
+
+abbrev pub changes_noted : ℕ → List Topic → List Change → Open → Open
+changes_noted place ts changes o = with_outbox (noted_all place ts (wanted o.subs) changes o.outbox) o
 
 -- ---- the places at which values were taken
 
@@ -165,14 +177,18 @@ abbrev pub if_id : Option ℕ → (ℕ → List Taken) → List Taken → List T
 if_id None f taken = taken
 if_id (Some id) f taken = f id
 
-abbrev pub taken_by : ℕ → Change → List Taken → List Taken
-taken_by place (change.Changed id name time value) taken = if_id (id_of id) (λ n. with_taken n place taken) taken
-taken_by place (change.Ended id name) taken = if_id (id_of id) (λ n. without_taken n taken) taken
-taken_by place c taken = taken
+-- over the topics after a change: the place of a value that is held is kept, and that of one that isn't is forgotten
+abbrev pub taken_by : ℕ → List Topic → Change → List Taken → List Taken
+taken_by place ts (change.Changed id name time value) taken =
+    if_id (id_of id) (λ n. if holds_in ts name then with_taken n place taken else taken) taken
+taken_by place ts (change.Props id name update) taken =
+    if_id (id_of id) (λ n. if holds_in ts name then taken else without_taken n taken) taken
+taken_by place ts (change.Ended id name) taken = if_id (id_of id) (λ n. without_taken n taken) taken
+taken_by place ts c taken = taken
 
-abbrev pub taken_after : ℕ → List Change → List Taken → List Taken
-taken_after place [] taken = taken
-taken_after place (c ∷ changes) taken = taken_after place changes (taken_by place c taken)
+abbrev pub taken_after : ℕ → List Topic → List Change → List Taken → List Taken
+taken_after place ts [] taken = taken
+taken_after place ts (c ∷ changes) taken = taken_after place ts changes (taken_by place ts c taken)
 
 -- ---- what is said
 
@@ -214,22 +230,39 @@ set_to place t m b = b
 
 -- what the sender is told, over the topics after its message and its changes. What it did itself it is answered, and
 -- isn't told besides
-abbrev pub told_sender : ℕ → List Topic → Msg → List Change → Open → Open
-told_sender place ts (Control (Publish name uid typ props)) changes o =
+abbrev pub sender_noted : ℕ → List Topic → Msg → List Change → Open → Open
+sender_noted place ts (Control (Publish name uid typ props)) changes o =
     with_outbox (published_to place (find (is_named name) ts) uid (not (is_empty changes)) (wanted o.subs) o.outbox) o
-told_sender place ts (Control (SetProps name update)) changes o =
-    with_outbox (noted_all place (wanted o.subs) (filter is_end changes)
+sender_noted place ts (Control (SetProps name update)) changes o =
+    with_outbox (noted_all place ts (wanted o.subs) (filter is_end changes)
     (set_to place (find (is_named name) ts) (SetProps name update) o.outbox)) o
-told_sender place ts m changes o = told_changes place changes o
+sender_noted place ts m changes o = changes_noted place ts changes o
 
-abbrev pub told_said : ℕ → List Topic → ℕ → Msg → List Change → Open → Open
-told_said place ts conn m changes o =
-    if is_number conn o then told_sender place ts m changes o else told_changes place changes o
+abbrev pub message_noted : ℕ → List Topic → ℕ → Msg → List Change → Open → Open
+message_noted place ts conn m changes o =
+    if is_number conn o then sender_noted place ts m changes o else changes_noted place ts changes o
+
+-- the id of a topic that turned, as it was before and is after
+abbrev pub turned_of : Option Topic → Option Topic → Option ℕ
+turned_of (Some before) (Some after) = if is_turned before.props after.props then Some after.id else None
+turned_of before after = None
+
+-- that of the topic that a message turns, by the topics before and after it
+abbrev pub turned_id : List Topic → List Topic → Msg → Option ℕ
+turned_id before after (Control (SetProps name update)) =
+    turned_of (find (is_named name) before) (find (is_named name) after)
+turned_id before after m = None
+
+-- a turn is told to each connection, before anything else at its place. A topic that ends by the same update has none
+abbrev pub turn_noted : ℕ → Option ℕ → Open → Open
+turn_noted place None o = o
+turn_noted place (Some id) o = with_outbox (turned_to place id o.outbox) o
 
 -- ---- subscriptions
 
 -- an outbox is told of another wish for each topic
-abbrev pub rewanted_all : ℕ → List Taken → (List ℕ → Wanted) → (List ℕ → Wanted) → List Topic → OutboxState → OutboxState
+abbrev pub rewanted_all : ℕ → List Taken → (List ℕ → Wanted) → (List ℕ → Wanted) → List Topic → OutboxState
+    → OutboxState
 rewanted_all place taken old wish [] b = b
 rewanted_all place taken old wish (t ∷ ts) b =
     rewanted_all place taken old wish ts (rewanted_to place t (taken_at t.id taken) (old t.name) (wish t.name) b)
@@ -254,8 +287,8 @@ abbrev pub subscribed : State → ℕ → ℕ → Subs → State
 subscribed s place conn subs =
     let opens = with_subs_of conn subs s.opens in
     record s {
-      opens = refreshed place (metas_kept s.opens s.topics) s.topics
-          (rewanting place s.taken s.topics (metas_kept opens s.topics) conn (subs_at s.opens conn) opens);
+      opens = refreshed place (open_metas s.opens s.topics) s.topics
+          (rewanting place s.taken s.topics (open_metas opens s.topics) conn (subs_at s.opens conn) opens);
     }
 
 -- ---- acts
@@ -275,10 +308,11 @@ counted s place conn m =
     let changes = changes_said s.topics s.next conn m in
     let ts = topics_said s.topics s.next conn m in
     record s {
-      opens = if_structural m place (metas_kept s.opens s.topics) ts (map (told_said place ts conn m changes) s.opens);
+      opens = if_structural m place (open_metas s.opens s.topics) ts
+          (map (λ o. message_noted place ts conn m changes (turn_noted place (turned_id s.topics ts m) o)) s.opens);
       topics = ts;
       next = next_said s.topics s.next m;
-      taken = taken_after place changes s.taken;
+      taken = taken_after place ts changes s.taken;
     }
 
 abbrev pub said_to : State → ℕ → ℕ → Msg → State
@@ -292,18 +326,24 @@ if_taken (Some cause) after before = before
 
 abbrev pub opened_by : State → ℕ → ℕ → List ℕ → State
 opened_by s place worker name =
-    let opens = s.opens ++ record { conn = s.opened + 1; worker = worker; name = given_name (given_names s.opens) name; subs = []; outbox = nothing_owed } ∷ [] in
-    record s { opened = s.opened + 1; opens = refreshed place (metas_kept s.opens s.topics) s.topics opens }
+    let opens = s.opens ++ record {
+      conn = s.opened + 1;
+      worker = worker;
+      name = given_name (given_names s.opens) name;
+      subs = [];
+      outbox = nothing_owed;
+    } ∷ [] in
+    record s { opened = s.opened + 1; opens = refreshed place (open_metas s.opens s.topics) s.topics opens }
 
 abbrev pub closed_by : State → ℕ → ℕ → State
 closed_by s place conn =
     let changes = drop_changes s.topics conn in
     let ts = dropped s.topics conn in
     record s {
-      opens = refreshed place (metas_kept s.opens s.topics) ts
-          (map (told_changes place changes) (filter (λ o. not (is_number conn o)) s.opens));
+      opens = refreshed place (open_metas s.opens s.topics) ts
+          (map (changes_noted place ts changes) (filter (λ o. not (is_number conn o)) s.opens));
       topics = ts;
-      taken = taken_after place changes s.taken;
+      taken = taken_after place ts changes s.taken;
     }
 
 -- a drain of a connection that fell behind changes nothing
@@ -342,7 +382,7 @@ abbrev pub drained_answer : State → ℕ → ℕ → ℕ → StepOut
 drained_answer s moment conn budget =
     let b = outbox_at s.opens conn in
     drained_out (behind b)
-    (drained_batch (record { topics = s.topics; metas = metas_kept s.opens s.topics }) moment budget b)
+    (drained_batch (record { topics = s.topics; metas = open_metas s.opens s.topics }) moment budget b)
 
 abbrev pub reply : State → ℕ → ℕ → Act → StepOut
 reply s worker now (act.Open name version) =

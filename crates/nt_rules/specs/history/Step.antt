@@ -5,7 +5,7 @@ use Rattle.nt_values.specs.Types.{size_of}
 use Rattle.nt_subs.specs.Subscriptions.{Subs}
 use Rattle.nt_rules.specs.Limits.{most_value}
 use Rattle.nt_rules.specs.declared.topic.Topic.{Topic}
-use Rattle.nt_rules.specs.outbox.Calls.{OutboxState, behind, left}
+use Rattle.nt_rules.specs.outbox.Calls.{OutboxState, behind, unless_behind}
 use Rattle.nt_rules.specs.declared.act.Act.{Act}
 use Rattle.nt_rules.specs.declared.act.Act.TheVariants as act
 use Rattle.nt_rules.specs.declared.act.Msg.{Msg}
@@ -91,7 +91,7 @@ pub record Owes (start : Start) (past : List Entry) (conn : ℕ) (b : OutboxStat
   pub is_well : b.failed ≡ false
   pub not_later : b.place ≤ length past
   pub behind_is : behind b ≡ (account start past conn).fell
-  pub marks_are : left (behind b) b.marks ≡ left (behind b) (marks_owed start past conn)
+  pub marks_are : unless_behind (behind b) b.marks ≡ unless_behind (behind b) (marks_owed start past conn)
 
 abbrev pub AllOwe : Start → List Entry → List Open → Type 0
 AllOwe start past [] = Unit {0}
@@ -124,8 +124,8 @@ AreWithin (e ∷ past) = (e.now < 2 ^ 63) × IsPutIn e.deed × AreWithin past
 
 -- ---- the server
 
--- the server stands for the history: it begins with topics that can be restored, it is lawful, and what the server keeps
--- is what it says
+-- the server stands for the history: it begins with topics that can be restored, it is lawful, and what the server
+-- keeps is what it says
 pub record Represents (server : ServerState) (start : Start) (past : List Entry) : Type 0 where
   pub start_is : IsSavedSet start.saved
   pub within : AreWithin past
@@ -135,8 +135,10 @@ pub record Represents (server : ServerState) (start : Start) (past : List Entry)
   pub opens_are : map plain server.state.opens ≡ map plain_of (open_ones (now_of start past).connections)
   pub outboxes_owe : AllOwe start past server.state.opens
 
--- the step answers what the definitions say and makes the act's entry, and the server then stands for the history with it
-pub record Steps (start : Start) (past : List Entry) (worker now : ℕ) (a : Act) (o : StepOut) (e : Entry) (server : ServerState) : Type 0 where
+-- the step answers what the definitions say and makes the act's entry, and the server then stands for the history with
+-- it
+pub record Steps (start : Start) (past : List Entry) (worker now : ℕ) (a : Act) (o : StepOut) (e : Entry)
+    (server : ServerState) : Type 0 where
   pub out_is : o ≡ answer start past worker now a
   pub entry_is : e ≡ entry worker (moment_of (now_of start past) now) a o
   pub represents : Represents server start (e ∷ past)

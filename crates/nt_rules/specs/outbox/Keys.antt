@@ -50,7 +50,11 @@ value_key id place = record { kind = Of_value; topic = id; place = place }
 abbrev pub is_value : Key → Bool
 is_value k = is_kind k.kind Of_value
 
--- ---- what handing keys does to a topic
+-- ---- the topic of a key
+
+-- the key tells of a change of the topic's properties
+abbrev pub sets : ℕ → Key → Bool
+sets id k = is_kind k.kind Of_setting && (k.topic == id)
 
 -- the key announces the topic
 abbrev pub announces : ℕ → Key → Bool

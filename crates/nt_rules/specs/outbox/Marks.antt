@@ -12,12 +12,12 @@ use Rattle.nt_rules.specs.declared.waiting.Placed.{Placed}
 use Rattle.nt_rules.specs.outbox.Keys.{Key, is_in, end_key, publish_key, setting_key, topic_key, value_key, announces, next_value, in_order}
 use Rattle.nt_rules.specs.Limits.{first_meta}
 
--- what is kept of one topic for one connection: its id and name; whether it was announced to the connection; the place of
--- its end, where it was announced and its end isn't told; the publishes that aren't answered and the changes of its
--- properties that aren't told, the oldest first; one more than the last place of a value that was handed, and 0 where none
--- was; how much it is wanted; the values that are owed under All, the oldest first; the place of the value that is owed
--- under Newest. The value of a meta topic stands at the place 0: of one, `next` is 1 where its bytes were handed since they
--- changed, and else 0
+-- what is kept of one topic for one connection: its id and name; whether it was announced to the connection; the place
+-- of its end, where it was announced and its end isn't told; the publishes that aren't answered and the changes of its
+-- properties that aren't told, the oldest first; one more than the last place of a value that was handed, and 0 where
+-- none was; how much it is wanted; the values that are owed one by one, the oldest first: under All, and of a topic
+-- that isn't cached; the place of the value of a cached topic that is owed under Newest. The value of a meta topic
+-- stands at the place 0: of one, `next` is 1 where its bytes were handed since they changed, and else 0
 pub record Mark : Type 0 where
   pub id : ℕ
   pub name : List ℕ
@@ -57,6 +57,12 @@ abbrev pub is_wish : Wanted → Bool
 is_wish No = false
 is_wish wish = true
 
+-- whether its values are wanted
+abbrev pub is_valued : Wanted → Bool
+is_valued Newest = true
+is_valued All = true
+is_valued wish = false
+
 -- whether nothing of it has to be kept: it is as it was before anything was heard
 abbrev pub is_blank : Mark → Bool
 is_blank m =
@@ -82,19 +88,31 @@ queued place x (y ∷ z ∷ ys) = y ∷ queued place x (z ∷ ys)
 abbrev pub started : Wanted → Mark → Mark
 started wish m = record m { wish = wish }
 
--- a value was taken: under All each is owed, under Newest the last
-abbrev pub noted_value : Placed → Wanted → Mark → Mark
-noted_value p wish m = by_wish wish
-  where
-    by_wish : Wanted → Mark
-    by_wish All = record m { wish = All; values = queued (λ p. p.place) p m.values }
-    by_wish Newest = record m { wish = Newest; newest = Some p.place }
-    by_wish other = record m { wish = other }
+-- a value of a cached topic was taken: under All each is owed, under Newest the last
+abbrev pub noted_held : Placed → Wanted → Mark → Mark
+noted_held p All m = record m { wish = All; values = queued (λ p. p.place) p m.values }
+noted_held p Newest m = record m { wish = Newest; newest = Some p.place }
+noted_held p wish m = record m { wish = wish }
 
--- its properties changed: that is owed where it was announced before
+-- a value of a topic that isn't cached was taken: each is owed where its values are wanted
+abbrev pub noted_passing : Placed → Wanted → Mark → Mark
+noted_passing p wish m =
+    record m { wish = wish; values = if is_valued wish then queued (λ p. p.place) p m.values else m.values }
+
+abbrev pub noted_value : Placed → Bool → Wanted → Mark → Mark
+noted_value p cached wish m = if cached then noted_held p wish m else noted_passing p wish m
+
+-- its properties changed: that is owed where it was announced before, or an earlier change is owed
 abbrev pub noted_setting : Setting → Wanted → Mark → Mark
 noted_setting s wish m =
-    record m { wish = wish; settings = if m.is_announced then queued (λ s. s.place) s m.settings else m.settings }
+    record m {
+      wish = wish;
+      settings = if m.is_announced || not (is_empty m.settings) then queued (λ s. s.place) s m.settings else m.settings;
+    }
+
+-- it turned: whether it is cached changed. No value of it is owed any more
+abbrev pub turned : Mark → Mark
+turned m = record m { values = []; newest = None }
 
 -- it ended: nothing of it is owed any more, but for its end where it was announced
 abbrev pub ended : ℕ → Mark → Mark
@@ -128,15 +146,20 @@ abbrev pub newest_of : Wanted → ℕ → Option ℕ → Option ℕ
 newest_of Newest next place = place_from next place
 newest_of wish next place = None
 
--- how much it is wanted changed, where its held value was taken at its place
-abbrev pub rewanted : Option Placed → Wanted → Wanted → Mark → Mark
-rewanted held old wish m =
+-- of a topic that isn't cached the values stay owed where they were wanted before and are now
+abbrev pub still_queued : Wanted → Wanted → List Placed → List Placed
+still_queued old wish values = if is_valued old && is_valued wish then values else []
+
+-- how much it is wanted changed. The held value of a cached topic was taken at its place
+abbrev pub rewanted : Bool → Option Placed → Wanted → Wanted → Mark → Mark
+rewanted cached held old wish m =
     if same_wish old wish then m
-    else record m {
+    else if cached then record m {
       wish = wish;
       values = all_of wish m.next held;
       newest = newest_of wish m.next (option_map (λ p. p.place) held);
     }
+    else record m { wish = wish; values = still_queued old wish m.values; newest = None }
 
 -- the held value with the place at which it was taken
 abbrev pub placed : ℕ → Timed → Placed
@@ -205,7 +228,7 @@ abbrev pub newest_keys : Mark → List Key
 newest_keys m = map (value_key m.id) (option_items m.newest)
 
 -- all that is owed, in the order in which it is handed: ends by place; answers to publishes and changes of properties
--- by place; announces by id; values under All by place; values under Newest by id
+-- by place; announces by id; the values that are owed one by one, by place; values under Newest by id
 abbrev pub keys : List Mark → List Key
 keys marks =
     in_order (flat_map end_keys marks)
@@ -225,7 +248,7 @@ values_weight [] = 0
 values_weight (p ∷ values) = 64 + size_of p.value + values_weight values
 
 -- 64 for an end and for each answer to a publish, 64 and the length of its compact text for each change of
--- properties, 64 and its size for each value under All. Announces and values under Newest weigh nothing
+-- properties, 64 and its size for each value that is owed one by one. Announces and all other values weigh nothing
 abbrev pub mark_weight : Mark → ℕ
 mark_weight m =
     64 * length (option_items m.over) + 64 * length m.publishes + settings_weight m.settings + values_weight m.values
@@ -236,15 +259,15 @@ weight (m ∷ marks) = mark_weight m + weight marks
 
 -- ---- all topics of a connection, by rising id
 
-abbrev pub kept : Mark → List Mark → List Mark
-kept m marks = if is_blank m then marks else m ∷ marks
+abbrev pub unless_blank : Mark → List Mark → List Mark
+unless_blank m marks = if is_blank m then marks else m ∷ marks
 
 -- the marks with that of this id changed
 abbrev pub at_id : ℕ → List ℕ → (Mark → Mark) → List Mark → List Mark
-at_id id name f [] = kept (f (fresh id name)) []
+at_id id name f [] = unless_blank (f (fresh id name)) []
 at_id id name f (m ∷ marks) =
-    if m.id == id then kept (f m) marks
-    else if nat_lt id m.id then kept (f (fresh id name)) (m ∷ marks)
+    if m.id == id then unless_blank (f m) marks
+    else if nat_lt id m.id then unless_blank (f (fresh id name)) (m ∷ marks)
     else m ∷ at_id id name f marks
 
 -- the marks after keys were handed

@@ -60,8 +60,8 @@ text_by living m Of_value place = unannounced m
 
 -- ---- values
 
-abbrev pub said : ℕ → Timed → ValueMsg
-said id v = record { id = pos id; time = v.time; value = v.value }
+abbrev pub value_message : ℕ → Timed → ValueMsg
+value_message id v = record { id = pos id; time = v.time; value = v.value }
 
 -- what stands for a value that isn't there, which never comes
 abbrev pub no_value : ℕ → ValueMsg
@@ -69,14 +69,14 @@ no_value id = record { id = pos id; time = 0; value = Int (pos 0) }
 
 abbrev pub held_value : ℕ → Option Timed → ValueMsg
 held_value id None = no_value id
-held_value id (Some v) = said id v
+held_value id (Some v) = value_message id v
 
 -- a meta topic's value has the moment of the drain as its time
 abbrev pub meta_value : ℕ → ℕ → Option MetaNow → ValueMsg
 meta_value now id None = no_value id
 meta_value now id (Some m) = record { id = pos id; time = now; value = Bytes m.bytes }
 
--- under All the value that was kept, under Newest the one that the topic holds
+-- the value that was kept, where it is owed one by one, and else the one that the topic holds
 abbrev pub placed_value : Living → Mark → Option Placed → ValueMsg
 placed_value living m (Some p) = record { id = pos m.id; time = p.time; value = p.value }
 placed_value living m None =

@@ -18,9 +18,9 @@ outcome_of None changes = Done changes
 outcome_of (Some cause) changes = Ignored cause
 
 -- what a topic that was found tells
-abbrev pub told_by : (Topic → List Change) → Option Topic → List Change
-told_by f None = []
-told_by f (Some t) = f t
+abbrev pub if_found : (Topic → List Change) → Option Topic → List Change
+if_found f None = []
+if_found f (Some t) = f t
 
 -- the end of a topic
 abbrev pub ended : Topic → Change
@@ -38,7 +38,7 @@ publish_changes topics next name typ props =
 -- an unpublish tells the end of a topic of which nothing is left
 abbrev pub unpublish_changes : List Topic → ℕ → ℤ → List Change
 unpublish_changes topics conn uid =
-    told_by (λ t. end_of (without_publisher conn uid t)) (find (has_publisher conn uid) topics)
+    if_found (λ t. end_of (without_publisher conn uid t)) (find (has_publisher conn uid) topics)
 
 -- the end of a connection tells the ends of the topics that end with it, by rising id
 abbrev pub drop_changes : List Topic → ℕ → List Change
@@ -49,14 +49,14 @@ abbrev pub update_change : Data → Topic → List Change
 update_change u t = changes.Props (pos t.id) t.name u ∷ end_of (with_update u t)
 
 abbrev pub update_changes : List Topic → List ℕ → Data → List Change
-update_changes topics name u = told_by (update_change u) (find (is_named name) topics)
+update_changes topics name u = if_found (update_change u) (find (is_named name) topics)
 
 -- a put tells the new value
 abbrev pub put_change : ℕ → Value → Topic → List Change
 put_change time value t = changes.Changed (pos t.id) t.name time value ∷ []
 
 abbrev pub put_changes : List Topic → ℕ → ℤ → ℕ → Value → List Change
-put_changes topics conn uid time value = told_by (put_change time value) (find (has_publisher conn uid) topics)
+put_changes topics conn uid time value = if_found (put_change time value) (find (has_publisher conn uid) topics)
 
 -- a restored value is told with the time 0
 abbrev pub restored_value : ℕ → List ℕ → Option Value → List Change

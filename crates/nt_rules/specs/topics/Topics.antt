@@ -8,7 +8,7 @@ use Rattle.serde_json.specs.Written.{compact_text}
 use Rattle.nt_values.specs.declared.value.Value.{Value}
 use Rattle.nt_values.specs.Types.{value_number, number_of}
 use Rattle.nt_topics.specs.Names.{is_special}
-use Rattle.nt_topics.specs.Properties.{updated, is_persistent, is_retained}
+use Rattle.nt_topics.specs.Properties.{updated, is_persistent, is_retained, is_cached}
 use Rattle.nt_rules.specs.declared.topic.Pub.{Pub}
 use Rattle.nt_rules.specs.declared.topic.Timed.{Timed}
 use Rattle.nt_rules.specs.declared.topic.Topic.{Topic}
@@ -57,8 +57,8 @@ abbrev pub lives_on : Topic → Bool
 lives_on t = nat_lt 0 (length t.pubs) || (is_persistent t.props || is_retained t.props)
 
 -- what is left of a topic that lost a publisher or was updated
-abbrev pub left_of : Topic → Option Topic
-left_of t = if lives_on t then Some t else None
+abbrev pub if_it_lives_on : Topic → Option Topic
+if_it_lives_on t = if lives_on t then Some t else None
 
 -- the list with its first item that passes the test changed, or taken out where nothing is left of it
 abbrev pub change_first : {X : Type 0} → (X → Bool) → (X → Option X) → List X → List X
@@ -126,7 +126,7 @@ without_publisher conn uid t = record t { pubs = filter (λ p. not (is_publisher
 -- the topics after an unpublish
 abbrev pub unpublished : List Topic → ℕ → ℤ → List Topic
 unpublished topics conn uid =
-    change_first (has_publisher conn uid) (λ t. left_of (without_publisher conn uid t)) topics
+    change_first (has_publisher conn uid) (λ t. if_it_lives_on (without_publisher conn uid t)) topics
 
 -- ---- the end of a connection
 
@@ -143,8 +143,17 @@ dropped topics conn = map (without_conn conn) (filter (outlives conn) topics)
 
 -- ---- properties
 
+-- an update turns a topic where it changes whether it is cached
+abbrev pub is_turned : Data → Data → Bool
+is_turned before after = if is_cached before then not (is_cached after) else is_cached after
+
+-- a turn drops the held value
 abbrev pub with_update : Data → Topic → Topic
-with_update u t = record t { props = updated t.props u }
+with_update u t =
+    record t {
+      props = updated t.props u;
+      value = if is_turned t.props (updated t.props u) then None else t.value;
+    }
 
 -- the cause that refuses an update of what was found
 abbrev pub update_cause_at : Data → Option Topic → Option Cause
@@ -156,7 +165,7 @@ update_cause topics name u = update_cause_at u (find (is_named name) topics)
 
 -- the topics after an update
 abbrev pub with_props : List Topic → List ℕ → Data → List Topic
-with_props topics name u = change_first (is_named name) (λ t. left_of (with_update u t)) topics
+with_props topics name u = change_first (is_named name) (λ t. if_it_lives_on (with_update u t)) topics
 
 -- ---- put
 
@@ -187,8 +196,10 @@ put_cause_at conn uid time value (Some t) = put_cause_to conn uid time value t
 abbrev pub put_cause : List Topic → ℕ → ℤ → ℕ → Value → Option Cause
 put_cause topics conn uid time value = put_cause_at conn uid time value (find (has_publisher conn uid) topics)
 
+-- a topic that isn't cached holds no value
 abbrev pub with_value : ℕ → Value → Topic → Topic
-with_value time value t = record t { value = Some (record { time = time; value = value }) }
+with_value time value t =
+    if is_cached t.props then record t { value = Some (record { time = time; value = value }) } else t
 
 -- the topics after a put
 abbrev pub with_put : List Topic → ℕ → ℤ → ℕ → Value → List Topic
@@ -218,7 +229,14 @@ at_zero value = record { time = 0; value = value }
 -- a saved topic, as it begins again
 abbrev pub restored_topic : ℕ → Saved → Topic
 restored_topic id saved =
-    record { id = id; name = saved.name; typ = saved.typ; props = saved.props; value = option_map at_zero saved.value; pubs = [] }
+    record {
+      id = id;
+      name = saved.name;
+      typ = saved.typ;
+      props = saved.props;
+      value = option_map at_zero saved.value;
+      pubs = [];
+    }
 
 -- the topics after a restore
 abbrev pub restored : List Topic → ℕ → Saved → List Topic

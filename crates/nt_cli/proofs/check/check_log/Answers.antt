@@ -23,7 +23,8 @@ returns-in_err-text-in-Ok-clause-gives g c =
 
 pub returns-in-Ok-clause-gives : goal.returns-in-Ok-clause-gives
 returns-in-Ok-clause-gives g c =
-    let counts = counts_all _ _ _ _ _ c.new-reader.ensures.stands c.in_ok-feed.ensures.stands c.in_ok-items.ensures.counts in
+    let counts = counts_all _ _ _ _ _ c.new-reader.ensures.stands c.in_ok-feed.ensures.stands
+    c.in_ok-items.ensures.counts in
     let text : c.as_str.result.now ≡ summary c.in_ok-items.items (length c.args.bytes.now) = search rules in
     gives-log c.reading_is_meaning.ensures.one Check c.args.bytes.now counts.items None _ _ _ c.requires
     (c.in-Ok.ensures.meaning c.args.bytes.now counts.items counts.stands)
@@ -31,7 +32,9 @@ returns-in-Ok-clause-gives g c =
 
 pub returns-clause-gives : goal.returns-clause-gives
 returns-clause-gives g c =
-    let counts = counts_all _ _ _ _ _ c.new-reader.ensures.stands c.in_ok-feed.ensures.stands c.in_ok-items.ensures.counts in
-    gives-log c.reading_is_meaning.ensures.one Check c.args.bytes.now counts.items (Some c.in-Err.fault) _ _ _ c.requires
+    let counts = counts_all _ _ _ _ _ c.new-reader.ensures.stands c.in_ok-feed.ensures.stands
+    c.in_ok-items.ensures.counts in
+    gives-log c.reading_is_meaning.ensures.one Check c.args.bytes.now counts.items (Some c.in-Err.fault) _ _ _
+    c.requires
     (c.in-Err.ensures.meaning c.args.bytes.now counts.items counts.stands)
     (rw c.new.ensures.bytes at c.end_log.ensures.gives)

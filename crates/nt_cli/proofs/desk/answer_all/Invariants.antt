@@ -4,7 +4,8 @@ use Rattle.nt_cli.proofs.desk.answer_all.Given as goal
 
 abbrev pub invariant-loop-desk : goal.invariant-loop-desk
 invariant-loop-desk g l =
-    Runs (g.R.Source.left l.fn.source) (g.R.Source.left l.source) (g.O.Sink.taken l.fn.out) (g.O.Sink.taken l.out) l.desk.server l.desk.lines l.desk.number
+    Runs (g.R.Source.left l.fn.source) (g.R.Source.left l.source) (g.O.Sink.taken l.fn.out) (g.O.Sink.taken l.out)
+    l.desk.server l.desk.lines l.desk.number
     × IsLater g.R.Source.faults g.R.Source.aside l.fn.source l.source
     × IsLater g.O.Sink.faults g.O.Sink.aside l.fn.out l.out
 

@@ -11,7 +11,8 @@ loop-frame-preserved g c =
       record {
         text = i.text ++ frame_line c.frame-item.result;
         whole = lines-more _ _ _ _ i.whole c.loop-frame-test.true c.frame-item.is;
-        printed = Appends-trans _ _ _ i.text (frame_line c.frame-item.result) i.printed c.in_ok-print_frame.ensures.prints;
+        printed = Appends-trans _ _ _ i.text (frame_line c.frame-item.result) i.printed
+            c.in_ok-print_frame.ensures.prints;
       },
       search rules,
     )
@@ -20,4 +21,5 @@ pub returns-in_err-print_frame-clause-prints : goal.returns-in_err-print_frame-c
 returns-in_err-print_frame-clause-prints g c =
     let i = c.loop-frame.invariant.0 in
     let p = err_from_is_err_and c.from_residual.result c.from_residual.ensures.1 in
-    rw (p.1, p.2) (lines-stopped _ _ i.text _ _ _ _ c.in_err-print_frame.field-0.0 i.whole c.loop-frame-test.true c.frame-item.is i.printed c.in_err-print_frame.ensures.prints)
+    rw (p.1, p.2) (lines-stopped _ _ i.text _ _ _ _ c.in_err-print_frame.field-0.0 i.whole c.loop-frame-test.true
+    c.frame-item.is i.printed c.in_err-print_frame.ensures.prints)

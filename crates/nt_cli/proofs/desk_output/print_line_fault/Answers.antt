@@ -13,4 +13,5 @@ pub returns-clause-prints : goal.returns-clause-prints
 unfolding line_fault
 returns-clause-prints g c =
     let text : c.as_str.result.now ≡ line_fault c.args.number = search rules in
-    subst (λ (l : List ℕ). Prints l (g.O.Sink.taken c.args.out.now) (g.O.Sink.taken c.print.new.out) c.print.result) text c.print.ensures.prints
+    subst (λ (l : List ℕ). Prints l (g.O.Sink.taken c.args.out.now) (g.O.Sink.taken c.print.new.out) c.print.result)
+    text c.print.ensures.prints

@@ -12,7 +12,9 @@ loop-item-preserved g c =
       record {
         items = i.items ++ c.in-Ok-Some.item ∷ [];
         stands = e.stands c.args.bytes.now i.items i.stands;
-        printed = items-more i.items c.in-Ok-Some.item (string_bytes c.loop-item.lines) (string_bytes c.append_line.new.text) (string_bytes c.print_full.new.lines) (g.O.Sink.taken c.args.out.now) (g.O.Sink.taken c.loop-item.out) (g.O.Sink.taken c.print_full.new.out)
+        printed = items-more i.items c.in-Ok-Some.item (string_bytes c.loop-item.lines)
+            (string_bytes c.append_line.new.text) (string_bytes c.print_full.new.lines) (g.O.Sink.taken c.args.out.now)
+            (g.O.Sink.taken c.loop-item.out) (g.O.Sink.taken c.print_full.new.out)
             c.in_ok-append_line-in-Ok-Some.ensures i.printed p.ok;
       },
       search rules,
@@ -23,11 +25,14 @@ returns-in_err-print_full-in-Ok-Some-clause-write g c = λ failed.
     let i = c.loop-item.invariant.0 in
     let e = rw c.in-Ok-Some.field-0-is at c.in-Ok-Some.ensures in
     let stopped = c.in_err-print_full-in-Ok-Some.ensures.stopped in
-    let printed : HasPrinted (placed_lines (i.items ++ c.in-Ok-Some.item ∷ [])) stopped.0 (g.O.Sink.taken c.args.out.now) (g.O.Sink.taken c.print_full.new.out)
-    = items-more i.items c.in-Ok-Some.item (string_bytes c.loop-item.lines) (string_bytes c.append_line.new.text) stopped.0 (g.O.Sink.taken c.args.out.now) (g.O.Sink.taken c.loop-item.out) (g.O.Sink.taken c.print_full.new.out)
+    let printed : HasPrinted (placed_lines (i.items ++ c.in-Ok-Some.item ∷ [])) stopped.0
+    (g.O.Sink.taken c.args.out.now) (g.O.Sink.taken c.print_full.new.out)
+    = items-more i.items c.in-Ok-Some.item (string_bytes c.loop-item.lines) (string_bytes c.append_line.new.text)
+    stopped.0 (g.O.Sink.taken c.args.out.now) (g.O.Sink.taken c.loop-item.out) (g.O.Sink.taken c.print_full.new.out)
     c.in_ok-append_line-in-Ok-Some.ensures i.printed stopped.2 in (
       stopped.0,
       stopped.1,
-      stopped-at c.reading_is_meaning.ensures.begins c.args.bytes.now stopped.0 (i.items ++ c.in-Ok-Some.item ∷ []) c.next.new.self (g.O.Sink.taken c.args.out.now) (g.O.Sink.taken c.print_full.new.out)
+      stopped-at c.reading_is_meaning.ensures.begins c.args.bytes.now stopped.0 (i.items ++ c.in-Ok-Some.item ∷ [])
+          c.next.new.self (g.O.Sink.taken c.args.out.now) (g.O.Sink.taken c.print_full.new.out)
           (e.stands c.args.bytes.now i.items i.stands) printed,
     )

@@ -5,7 +5,8 @@ use Rattle.nt_cli.proofs.turn.say.Goals as goal
 
 pub returns-in-Some-clause-connected : goal.returns-in-Some-clause-connected
 returns-in-Some-clause-connected c = λ past connected.
-    let is : Some c.in-Some.answer ≡ answer_to c.args.moment c.args.msg = rw c.in-Some.is at c.in_ok-answer.ensures in connected-asked past _ _ _ _ is connected
+    let is : Some c.in-Some.answer ≡ answer_to c.args.moment c.args.msg =
+    rw c.in-Some.is at c.in_ok-answer.ensures in connected-asked past _ _ _ _ is connected
 
 pub returns-clause-connected : goal.returns-clause-connected
 returns-clause-connected c = λ past connected.

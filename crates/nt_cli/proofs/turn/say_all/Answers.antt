@@ -8,14 +8,18 @@ use Rattle.nt_cli.proofs.turn.say_all.Goals as goal
 
 pub loop-msg-init : goal.loop-msg-init
 loop-msg-init c = record {
-  connected = λ past connected. subst (λ (p : List Entry). IsConnected c.args.server.now p) (sym (with_messages-none past c.args.moment)) connected;
+  connected = λ past connected. subst (λ (p : List Entry). IsConnected c.args.server.now p)
+      (sym (with_messages-none past c.args.moment)) connected;
   answers = c.new-answers.ensures.items;
 }
 
 pub loop-msg-preserved : goal.loop-msg-preserved
 loop-msg-preserved c = record {
   connected = λ past connected.
-      subst (λ (p : List Entry). IsConnected c.say.new.server p) (sym (with_messages-push past c.args.moment c.loop-msg.yielded c.in-Some.msg)) (c.in_ok-say.ensures.connected _ (c.loop-msg.invariant.connected past connected));
+      subst (λ (p : List Entry). IsConnected c.say.new.server p)
+      (sym (with_messages-push past c.args.moment c.loop-msg.yielded c.in-Some.msg))
+      (c.in_ok-say.ensures.connected _ (c.loop-msg.invariant.connected past connected));
   answers =
-      c.in_ok-say.ensures.answers ∙ ap (λ (fs : List Frame). fs ++ answers_to c.args.moment (c.in-Some.msg ∷ [])) c.loop-msg.invariant.answers ∙ sym (answers-push c.args.moment c.loop-msg.yielded c.in-Some.msg);
+      c.in_ok-say.ensures.answers ∙ ap (λ (fs : List Frame). fs ++ answers_to c.args.moment (c.in-Some.msg ∷ []))
+      c.loop-msg.invariant.answers ∙ sym (answers-push c.args.moment c.loop-msg.yielded c.in-Some.msg);
 }

@@ -6,6 +6,7 @@ use Rattle.nt_cli.proofs.turn.say_all.Given as goal
 
 abbrev pub invariant-loop-msg : goal.invariant-loop-msg
 invariant-loop-msg l = record {
-  connected : (past : List Entry) → IsConnected l.fn.server past → IsConnected l.server (with_messages past l.moment l.yielded);
+  connected : (past : List Entry) → IsConnected l.fn.server past
+      → IsConnected l.server (with_messages past l.moment l.yielded);
   answers : l.answers.items ≡ answers_to l.moment l.yielded;
 }

@@ -1,7 +1,7 @@
-use Rattle.std.proofs.Common.{◌≡◌, ◌+◌, ◌++◌, ◌==◌, ◌∷◌, [], ℕ, true, false, length, rules, tests, arith}
+use Rattle.std.proofs.Common.{◌≡◌, ◌+◌, ◌++◌, ◌∷◌, [], ℕ, length, rules, tests, arith}
 use Rattle.serde_json.specs.Written.{compact_text}
 use Rattle.nt_rules.specs.declared.waiting.Setting.{Setting}
-use Rattle.nt_rules.specs.outbox.Marks.{queued, settings_weight}
+use Rattle.nt_rules.specs.outbox.Marks.{settings_weight}
 use Rattle.nt_outbox.proofs.Queues.{ok-always, if-ok, put-same, put-other, put-first, last-setting}
 use Rattle.nt_outbox.proofs.step.queue_setting.Goals as goal
 use Rattle.nt_outbox.proofs.step.queue_setting.Goals.{in-Some+then-last-setting+in_ok-others, in-Some+else-last-setting+in_ok-push, in_default}
@@ -16,15 +16,18 @@ overflow_sub-others c =
 pub returns-clause-settings : goal.returns-clause-settings
 returns-clause-settings c = ok-always c.sum-2.result (elim c.match-pop.branch [
   | in-Some+then-last-setting+in_ok-others w ↦
-      put-same (λ (x : Setting). x.place) c.args.setting w.in-Some.last c.args.settings.now c.pop.new.self.items c.of_vec.result
-      (search rules) (search (rules, tests)) (search rules)
+      put-same (λ (x : Setting). x.place) c.args.setting w.in-Some.last c.args.settings.now c.pop.new.self.items
+      c.of_vec.result (search rules) (search (rules, tests)) (search rules)
   | in-Some+else-last-setting+in_ok-push w ↦
-      put-other (λ (x : Setting). x.place) c.args.setting w.in-Some.last c.args.settings.now c.pop.new.self.items c.of_vec.result
-      (search rules) (search (rules, tests)) (search rules)
-  | in_default w ↦ put-first (λ (x : Setting). x.place) c.args.setting c.args.settings.now c.of_vec.result (search rules) (search rules)
+      put-other (λ (x : Setting). x.place) c.args.setting w.in-Some.last c.args.settings.now c.pop.new.self.items
+      c.of_vec.result (search rules) (search (rules, tests)) (search rules)
+  | in_default w ↦
+      put-first (λ (x : Setting). x.place) c.args.setting c.args.settings.now c.of_vec.result (search rules)
+      (search rules)
 ])
 
-weighed : (c : goal.After-sum-2) → c.match-pop.others + (64 + length (compact_text c.args.setting.update)) + settings_weight c.args.settings.now
+weighed : (c : goal.After-sum-2)
+    → c.match-pop.others + (64 + length (compact_text c.args.setting.update)) + settings_weight c.args.settings.now
     ≡ c.args.weight + settings_weight c.of_vec.result
 weighed c = elim c.match-pop.branch [
   | in-Some+then-last-setting+in_ok-others w ↦
@@ -49,5 +52,5 @@ returns-clause-weight c =
     let more : c.in_ok-more.more ≡ 64 + length (compact_text c.args.setting.update) = search rules in
     let all = weighed c in
     if-ok (λ (w : ℕ). w ≡ c.match-pop.others + c.in_ok-more.more)
-    (λ (w : ℕ). w + settings_weight c.args.settings.now ≡ c.args.weight + settings_weight c.of_vec.result) c.sum-2.result
-    (λ w told. omega arith) c.sum-2.ensures
+    (λ (w : ℕ). w + settings_weight c.args.settings.now ≡ c.args.weight + settings_weight c.of_vec.result)
+    c.sum-2.result (λ w told. omega arith) c.sum-2.ensures

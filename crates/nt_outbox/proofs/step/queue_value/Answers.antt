@@ -1,7 +1,7 @@
-use Rattle.std.proofs.Common.{◌≡◌, ◌+◌, ◌++◌, ◌==◌, ◌∷◌, [], ℕ, true, false, length, rules, tests, arith}
+use Rattle.std.proofs.Common.{◌≡◌, ◌+◌, ◌++◌, ◌∷◌, [], ℕ, rules, tests, arith}
 use Rattle.nt_values.specs.Types.{size_of}
 use Rattle.nt_rules.specs.declared.waiting.Placed.{Placed}
-use Rattle.nt_rules.specs.outbox.Marks.{queued, values_weight}
+use Rattle.nt_rules.specs.outbox.Marks.{values_weight}
 use Rattle.nt_outbox.proofs.Queues.{ok-always, if-ok, put-same, put-other, put-first, last-value}
 use Rattle.nt_outbox.proofs.step.queue_value.Goals as goal
 use Rattle.nt_outbox.proofs.step.queue_value.Goals.{in-Some+then-last-placed+in_ok-others, in-Some+else-last-placed+in_ok-push, in_default}
@@ -16,15 +16,18 @@ overflow_sub-others c =
 pub returns-clause-values : goal.returns-clause-values
 returns-clause-values c = ok-always c.sum-2.result (elim c.match-pop.branch [
   | in-Some+then-last-placed+in_ok-others w ↦
-      put-same (λ (x : Placed). x.place) c.args.placed w.in-Some.last c.args.values.now c.pop.new.self.items c.of_vec.result
-      (search rules) (search (rules, tests)) (search rules)
+      put-same (λ (x : Placed). x.place) c.args.placed w.in-Some.last c.args.values.now c.pop.new.self.items
+      c.of_vec.result (search rules) (search (rules, tests)) (search rules)
   | in-Some+else-last-placed+in_ok-push w ↦
-      put-other (λ (x : Placed). x.place) c.args.placed w.in-Some.last c.args.values.now c.pop.new.self.items c.of_vec.result
-      (search rules) (search (rules, tests)) (search rules)
-  | in_default w ↦ put-first (λ (x : Placed). x.place) c.args.placed c.args.values.now c.of_vec.result (search rules) (search rules)
+      put-other (λ (x : Placed). x.place) c.args.placed w.in-Some.last c.args.values.now c.pop.new.self.items
+      c.of_vec.result (search rules) (search (rules, tests)) (search rules)
+  | in_default w ↦
+      put-first (λ (x : Placed). x.place) c.args.placed c.args.values.now c.of_vec.result (search rules)
+      (search rules)
 ])
 
-weighed : (c : goal.After-sum-2) → c.match-pop.others + (64 + size_of c.args.placed.value) + values_weight c.args.values.now
+weighed : (c : goal.After-sum-2)
+    → c.match-pop.others + (64 + size_of c.args.placed.value) + values_weight c.args.values.now
     ≡ c.args.weight + values_weight c.of_vec.result
 weighed c = elim c.match-pop.branch [
   | in-Some+then-last-placed+in_ok-others w ↦

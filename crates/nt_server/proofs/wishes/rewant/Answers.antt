@@ -13,7 +13,8 @@ loop-i-preserved c =
     let taken = c.args.taken.now in
     let old = wanted c.args.old.now in
     let new = wanted c.args.new.now in
-    let step : c.rewant.new.self ≡ rewanted_to c.args.place t (taken_at t.id taken) (old t.name) (new t.name) c.loop-i.outbox =
+    let step : c.rewant.new.self ≡ rewanted_to c.args.place t (taken_at t.id taken) (old t.name) (new t.name)
+    c.loop-i.outbox =
     (let e = c.in_ok-rewant.ensures.owed in let at = c.at-at.ensures in let was = c.matches.ensures in
     let is = c.matches-in-loop-i.ensures in let text = c.as_str-name.ensures.text in cc) in
     ap (λ (b : OutboxState). rewanted_all c.args.place taken old new (drop (c.loop-i.i + 1) ts) b) step

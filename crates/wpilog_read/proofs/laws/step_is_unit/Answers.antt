@@ -12,7 +12,8 @@ pub returns-clause-opened : goal.returns-clause-opened
 returns-clause-opened c = next-after
 
 pub returns-clause-item : goal.returns-clause-item
-returns-clause-item c = λ r m x begun e. let t = next-takes r m x begun e in (t.unit, t.parts, t.is, t.at, t.offset, t.live)
+returns-clause-item c = λ r m x begun e. let t = next-takes r m x begun e in
+    (t.unit, t.parts, t.is, t.at, t.offset, t.live)
 
 pub returns-clause-read : goal.returns-clause-read
 returns-clause-read c = next-again

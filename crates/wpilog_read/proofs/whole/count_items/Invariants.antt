@@ -5,7 +5,8 @@ use Rattle.wpilog_read.proofs.whole.count_items.Given as goal
 
 -- what was counted from one state of the reader to another
 pub record Counted (first r : Reading) (count : ℕ) : Type 0 where
-  pub counts : (bytes : List ℕ) (items : List ItemAt) → Stands bytes items first → (more : List ItemAt) × (length more ≡ count) × Stands bytes (items ++ more) r
+  pub counts : (bytes : List ℕ) (items : List ItemAt) → Stands bytes items first
+      → (more : List ItemAt) × (length more ≡ count) × Stands bytes (items ++ more) r
   pub most : first.at + count ≤ r.at
 
 abbrev pub invariant-loop-item : goal.invariant-loop-item

@@ -4,5 +4,6 @@ use Rattle.wpilog_read.proofs.whole.read_pieces.Goals as goal
 
 pub returns-clause-only : goal.returns-clause-only
 returns-clause-only c = λ items fault means.
-    let stands = rw (take_all c.loop-piece.piece-index c.args.pieces.now (omega arith)) at c.loop-piece.invariant.stands in
+    let stands = rw (take_all c.loop-piece.piece-index c.args.pieces.now (omega arith)) at c.loop-piece.invariant.stands
+    in
     rw c.err.ensures.value (c.finish.ensures.only _ _ items fault stands means)

@@ -8,7 +8,7 @@ returns-in-Ok-clause-owed c =
     rw c.in-Changed.is
     (on-ok c.call-in-Changed.result
     (λ e. e
-    ∙ noted-value c.args.place c.in-Changed.id c.in-Changed.name c.in-Changed.time c.in-Changed.value c.args.wanted
-    c.args.self.now c.id_of-in-Changed.result c.as_str-in-Changed.result.now c.in-Ok.step (search rules) (search rules)
-    (search rules))
+    ∙ noted-value c.args.place c.in-Changed.id c.in-Changed.name c.in-Changed.time c.in-Changed.value c.args.cached
+    c.args.wanted c.args.self.now c.id_of-in-Changed.result c.as_str-in-Changed.result.now c.in-Ok.step (search rules)
+    (search rules) (search rules))
     c.call-in-Changed.ensures.owed)

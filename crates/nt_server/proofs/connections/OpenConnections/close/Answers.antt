@@ -1,5 +1,4 @@
-use Rattle.std.proofs.Common.{◌≡◌, ◌∙◌, List, cond, length, not, filter, sym, ap, subst}
-use Rattle.std.specs.Prelude.{remove}
+use Rattle.std.proofs.Common.{◌≡◌, ◌∙◌, List, not, filter, sym, ap, subst}
 use Rattle.nt_rules.proofs.Search.{filter-found}
 use Rattle.nt_rules.specs.history.State.{Open, is_number}
 use Rattle.nt_server.specs.Connections.{Connections, number, IsServedAt}
@@ -24,4 +23,7 @@ returns-in-Some-clause-rest c =
     c.remove-closed.ensures.items
     ∙ sym (filter-found number c.args.conn os c.in-Some.i
     (found-served c.self.inside.opened c.args.worker c.args.conn c.in-Some.i os c.self.invariant here)) in
-    rw (← c.self.view_is, here.served) (ap (λ (os : List Open). record { opened = c.self.inside.opened; opens = os }) left)
+    rw (← c.self.view_is, here.served) (ap (λ (os : List Open). record {
+      opened = c.self.inside.opened;
+      opens = os;
+    }) left)

@@ -85,11 +85,13 @@ returns-clause-connections c =
     ∙ sym (ap (λ (p : Open). p.outbox) c.client.view_is) in
     let none : behind o.outbox ≡ None =
     ap behind (sym owed ∙ same) ∙ sym c.behind.ensures ∙ c.in_default-behind.is in
-    let handed : with_outbox c.drain.new.self (the_view c.client-2.inside) ≡ with_outbox (drained c.args.budget o.outbox) o =
+    let handed : with_outbox c.drain.new.self (the_view c.client-2.inside)
+    ≡ with_outbox (drained c.args.budget o.outbox) o =
     ap (λ (b : OutboxState). with_outbox b (the_view c.client-2.inside)) c.in_ok-batch.ensures.owed
     ∙ ap (λ (p : Open). with_outbox (drained c.args.budget p.outbox) p) c.client-2.view_is in
     rw (← c.self.view_is, here.served)
     (ap (λ (os : List Open). record { opened = c.self.inside.opened; opens = os })
-    (drained-there c.args.conn c.args.budget c.in-Some.i os o (with_outbox c.drain.new.self (the_view c.client-2.inside))
+    (drained-there c.args.conn c.args.budget c.in-Some.i os o
+    (with_outbox c.drain.new.self (the_view c.client-2.inside))
     (found-served c.self.inside.opened c.args.worker c.args.conn c.in-Some.i os c.self.invariant here)
     c.index_mut-client.ensures.value none handed))

@@ -1,9 +1,8 @@
-use Rattle.std.proofs.Common.{◌≡◌, ◌<◌, ◌∙◌, List, length, set, refl, sym, ap, subst}
+use Rattle.std.proofs.Common.{◌≡◌, ◌<◌, ◌∙◌, List, length, set, sym, ap, subst}
 use Rattle.nt_subs.specs.Subscriptions.{Subs}
-use Rattle.nt_subs.specs.Wishes.{wanted}
 use Rattle.nt_rules.specs.declared.meta.MetaNow.{MetaNow}
 use Rattle.nt_rules.specs.outbox.Calls.{OutboxState}
-use Rattle.nt_rules.specs.history.State.{Open, with_outbox, metas_kept}
+use Rattle.nt_rules.specs.history.State.{Open, with_outbox, open_metas}
 use Rattle.nt_server.specs.Connections.{Connections, number_at}
 use Rattle.nt_server.specs.contracts.open.Open.{the_view}
 use Rattle.nt_server.proofs.Numbers.{found_there, numbered-write, numbered-twice}
@@ -57,14 +56,15 @@ returns c =
     ap (λ (x : Open). record x { subs = c.replace-old.new.dest }) c.client.view_is
     ∙ ap (λ (s : Subs). record o { subs = s }) c.replace-old.ensures.after in
     let had : old ≡ o.subs = c.replace-old.ensures.value ∙ ap (λ (x : Open). x.subs) c.client.view_is in
-    let after_is : after ≡ metas_kept (set os i p) ts =
-    c.in_ok-after.ensures ∙ ap (λ (xs : List Open). metas_kept xs ts) c.deref.ensures.value in
+    let after_is : after ≡ open_metas (set os i p) ts =
+    c.in_ok-after.ensures ∙ ap (λ (xs : List Open). open_metas xs ts) c.deref.ensures.value in
     let retold_is : r ≡ retold place taken ts ms old q =
     ap (λ (b : OutboxState). with_outbox b (the_view c.client-2.inside)) c.in_ok-rewant.ensures
     ∙ ap (retold place taken ts ms old) c.client-2.view_is in
     let told_is : told ≡ told_metas place before after (set (set os i p) i r) =
     ap (λ (k : Connections). k.opens) c.in_ok-tell_metas.ensures
-    ∙ ap (λ (ms : List MetaNow). told_metas place ms c.as_slice-3.result.now (set (set os i p) i r)) c.as_slice-2.ensures
+    ∙ ap (λ (ms : List MetaNow). told_metas place ms c.as_slice-3.result.now (set (set os i p) i r))
+    c.as_slice-2.ensures
     ∙ ap (λ (ms : List MetaNow). told_metas place before ms (set (set os i p) i r)) c.as_slice-3.ensures in
     let made : IsResubscribed place (number_at os i) before after taken ts c.args.subs os told =
     resubscribing place (number_at os i) i before after ms taken ts c.args.subs old os o p q r told (record {

@@ -1,4 +1,4 @@
-use Rattle.std.proofs.Common.{◌≡◌, ◌∙◌, List, sym, ap, subst}
+use Rattle.std.proofs.Common.{◌∙◌, List, sym, ap, subst}
 use Rattle.nt_rules.specs.history.State.{Open}
 use Rattle.nt_server.specs.Connections.{IsOpenAt}
 use Rattle.nt_server.proofs.Numbers.{served-at, not-served}

@@ -1,7 +1,7 @@
-use Rattle.std.proofs.Common.{◌≡◌, ◌++◌, List, [], map, length, refl, sym, ap, subst, arith}
+use Rattle.std.proofs.Common.{◌≡◌, ◌++◌, List, map, length, refl, sym, subst, arith}
 use Rattle.std.proofs.lemmas.Grind.{common_steps}
 use Rattle.std.proofs.Math.ListN.{take, drop}
-use Rattle.nt_rules.specs.history.State.{Open, told_changes}
+use Rattle.nt_rules.specs.history.State.{Open, changes_noted}
 use Rattle.nt_server.specs.Connections.{Connections, AreNumbered}
 use Rattle.nt_server.proofs.Numbers.{numbered_map}
 use Rattle.nt_server.proofs.connections.OpenConnections.tell.Goals as goal
@@ -11,9 +11,10 @@ invariant_of-self-2 c =
     let opens : List Open = c.args.self.now.opens in
     let told : (take c.replace-list.result.len (c.loop-client.client-items
     ++ drop (length c.loop-client.client-items) c.replace-list.result.items))
-    ≡ map (told_changes c.args.place c.args.changes.now) opens =
+    ≡ map (changes_noted c.args.place c.args.table.now.topics c.args.changes.now) opens =
     grind (arith, common_steps) in
     let numbered : AreNumbered c.self.inside.opened opens =
     subst (λ (k : Connections). AreNumbered c.self.inside.opened k.opens) c.self.view_is c.self.invariant in
     subst (λ (os : List Open). AreNumbered c.self.inside.opened os) (sym told)
-    (numbered_map c.self.inside.opened (told_changes c.args.place c.args.changes.now) opens (λ o. refl) numbered)
+    (numbered_map c.self.inside.opened (changes_noted c.args.place c.args.table.now.topics c.args.changes.now) opens
+    (λ o. refl) numbered)

@@ -1,5 +1,5 @@
-use Rattle.std.proofs.Common.{◌≡◌, ◌∙◌, sym, ap}
-use Rattle.nt_rules.specs.history.State.{serves, metas_kept}
+use Rattle.std.proofs.Common.{◌∙◌, sym, ap}
+use Rattle.nt_rules.specs.history.State.{serves, open_metas}
 use Rattle.nt_server.specs.Connections.{Connections}
 use Rattle.nt_server.proofs.RosterRows.{drained-metas}
 use Rattle.nt_server.proofs.inner.Inner.drain.Goals as goal
@@ -11,6 +11,7 @@ returns-clause-kept c =
     record {
       metas_are =
           c.requires.kept.metas_are
-          ∙ sym (drained-metas ts i.connections c.args.conn c.args.budget (serves i.connections.opens c.args.worker c.args.conn))
-          ∙ sym (ap (λ (k : Connections). metas_kept k.opens ts) c.in_ok-out.ensures.connections);
+          ∙ sym (drained-metas ts i.connections c.args.conn c.args.budget
+          (serves i.connections.opens c.args.worker c.args.conn))
+          ∙ sym (ap (λ (k : Connections). open_metas k.opens ts) c.in_ok-out.ensures.connections);
     }

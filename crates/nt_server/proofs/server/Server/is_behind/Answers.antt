@@ -1,5 +1,5 @@
-use Rattle.std.proofs.Common.{◌≡◌, List, ◌∙◌, sym, ap, rules}
-use Rattle.nt_rules.specs.history.State.{Open, outbox_at}
+use Rattle.std.proofs.Common.{◌≡◌, ◌∙◌, sym, ap, rules}
+use Rattle.nt_rules.specs.history.State.{outbox_at}
 use Rattle.nt_rules.specs.outbox.Calls as box
 use Rattle.nt_laws.proofs.histories.Inspection.{looked-behind}
 use Rattle.nt_server.proofs.server.Server.is_behind.Goals as goal

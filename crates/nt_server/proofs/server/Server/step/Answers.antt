@@ -9,7 +9,10 @@ use Rattle.nt_server.proofs.server.Server.step.Goals as goal
 
 pub returns-clause-steps : goal.returns-clause-steps
 returns-clause-steps c =
-    let new : ServerState = the_view record { failed = c.is_err-self-inside.result; inner = c.step_well-stepped.new.self } in
+    let new : ServerState = the_view record {
+      failed = c.is_err-self-inside.result;
+      inner = c.step_well-stepped.new.self;
+    } in
     subst (λ (k : ServerState). IfOk c.step_well-stepped.result (λ s. (start : Start) (past : List Entry)
     → Represents k start past
     → Steps start past c.args.worker c.args.now c.args.act s.out s.entry new)) c.self.view_is

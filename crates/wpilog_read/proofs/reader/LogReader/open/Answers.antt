@@ -9,4 +9,5 @@ returns-clause-ok c =
     let rest = rw (← c.self.view_is) at c.rest-rest.ensures in
     let long : 12 ≤ length c.rest-rest.result.now = omega arith in
     let starts : starts_with nat_eq c.rest-rest.result.now header ≡ true = search rules in
-    rw (← c.self.view_is, c.if-self.false) (header-next c.self.inside.live.entries c.self.inside.bytes.items c.self.inside.taken c.self.inside.fault (rw (← rest) long) (rw (← rest) starts))
+    rw (← c.self.view_is, c.if-self.false) (header-next c.self.inside.live.entries c.self.inside.bytes.items
+    c.self.inside.taken c.self.inside.fault (rw (← rest) long) (rw (← rest) starts))
