@@ -1,0 +1,2 @@
+-- What the law of telling says.
+pub mod Trees
