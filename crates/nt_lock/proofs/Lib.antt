@@ -1,0 +1,13 @@
+pub mod Lists
+pub mod Tickets
+pub mod Growth
+pub mod Hands
+pub mod Notes
+pub mod Knowledge
+pub mod Steps
+pub mod Coming
+pub mod Joining
+pub mod Starting
+pub mod Closing
+pub mod Taking
+pub mod Opening
