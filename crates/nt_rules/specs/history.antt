@@ -7,6 +7,7 @@ pub mod Answer
 pub mod Drains
 pub mod Marks
 pub mod State
+pub mod Trees
 pub mod Step
 pub mod Saved
 pub mod Changes

@@ -8,9 +8,11 @@ use Rattle.nt_rules.specs.declared.topic.Saved.{Saved}
 use Rattle.nt_rules.specs.topics.Topics.{is_named, restored_topic, restored as restored_in}
 use Rattle.nt_rules.specs.history.Lives.{topics, restored}
 use Rattle.nt_rules.specs.history.Saved.{HasDistinctNames, IsRestorable, IsSavedSet}
+use Rattle.nt_rules.specs.history.Trees.{HaveTrees}
+use Rattle.nt_topics.specs.Trees.{IsOrdered}
 use Rattle.nt_laws.proofs.topics.TopicLaws.{topic-restored}
 
--- the topics so far and those that follow are all that were saved
+-- the topics so far and those that follow are all that were saved, and the keys of those so far rise
 pub record IsRestoring (ts : List Topic) (next : ℕ) (rest saved : List Saved) : Type 0 where
   pub topics_are : ts ++ topics (restored next rest) ≡ topics (restored 1 saved)
   pub next_is : next + length rest ≡ length saved + 1
@@ -19,6 +21,7 @@ pub record IsRestoring (ts : List Topic) (next : ℕ) (rest saved : List Saved) 
   pub unnamed : AllByRecursion (λ s. list_any (is_named s.name) ts ≡ false) rest
   pub names : HasDistinctNames rest
   pub each : AllByRecursion IsRestorable rest
+  pub trees : HaveTrees rest → HaveTrees saved
 
 none_named : (saved : List Saved) → AllByRecursion (λ s. list_any (is_named s.name) [] ≡ false) saved
 none_named [] = tt
@@ -34,6 +37,7 @@ restoring-start saved h =
       unnamed = none_named saved;
       names = h.names;
       each = h.each;
+      trees = λ t. t;
     }
 
 neither : (a b : Bool) → (a || b) ≡ false → (a ≡ false) × (b ≡ false)
@@ -56,8 +60,9 @@ still_unnamed ts id s (r ∷ rest) d h =
     )
 
 pub restoring-more : (ts : List Topic) (next : ℕ) (s : Saved) (rest saved : List Saved)
-    → IsRestoring ts next (s ∷ rest) saved → IsRestoring (restored_in ts next s) (next + 1) rest saved
-restoring-more ts next s rest saved h =
+    → IsOrdered s.props → IsRestoring ts next (s ∷ rest) saved
+    → IsRestoring (restored_in ts next s) (next + 1) rest saved
+restoring-more ts next s rest saved ordered h =
     record {
       topics_are =
           append_assoc ts (restored_topic next s ∷ []) (topics (restored (next + 1) rest))
@@ -69,4 +74,5 @@ restoring-more ts next s rest saved h =
       unnamed = still_unnamed ts next s rest h.names.0 h.unnamed.1;
       names = h.names.1;
       each = h.each.1;
+      trees = λ t. h.trees (ordered, t);
     }

@@ -10,6 +10,7 @@ use Rattle.nt_rules.specs.history.Lives.{topics, restored}
 use Rattle.nt_rules.specs.declared.start.Start.{Start}
 use Rattle.nt_rules.specs.history.Now.{beginning}
 use Rattle.nt_rules.specs.history.Saved.{IsSavedSet}
+use Rattle.nt_rules.specs.history.Trees.{HaveTrees, BringsTree}
 use Rattle.nt_server.specs.View.{begun}
 use Rattle.nt_rules.specs.history.Answer.{entry}
 use Rattle.nt_rules.specs.history.Changes.{added_changes}
@@ -22,14 +23,14 @@ use Rattle.nt_laws.proofs.outboxes.OutboxesAfterAct.{step-acted}
 
 -- a server over restored topics stands for no entries
 pub represents-over : (permits : ℕ) (saved : List Saved) (ts : List Topic) (next : ℕ) (k : ServerState)
-    → IsSavedSet saved
+    → IsSavedSet saved → HaveTrees saved
     → k ≡ record { failed = false; state = record (begun permits []) { topics = ts; next = next } }
     → ts ≡ topics (restored 1 saved) → next ≡ length saved + 1
     → Represents k (record { permits = permits; saved = saved }) []
-represents-over permits saved ts next k set is topics_are next_is =
+represents-over permits saved ts next k set trees is topics_are next_is =
     subst (λ (k : ServerState). Represents k start []) (sym is)
     (represents-begun (record { failed = false; state = record (begun permits []) { topics = ts; next = next } }) start
-    set refl core_is refl)
+    set trees refl core_is refl)
   where
     start : Start
     start = record { permits = permits; saved = saved }
@@ -55,13 +56,13 @@ represents-over permits saved ts next k set is topics_are next_is =
         ∙ sym (core-begun start)
 
 pub represents-restored : {E : Type 0} (permits : ℕ) (saved : List Saved) (ts : List Topic) (next : ℕ)
-    (r : Result ServerState E) → IsSavedSet saved
+    (r : Result ServerState E) → IsSavedSet saved → HaveTrees saved
     → IfOk r (λ k. k ≡ record { failed = false; state = record (begun permits []) { topics = ts; next = next } })
     → ts ≡ topics (restored 1 saved) → next ≡ length saved + 1
     → IfOk r (λ k. Represents k (record { permits = permits; saved = saved }) [])
-represents-restored permits saved ts next (Ok k) set is topics_are next_is =
-    represents-over permits saved ts next k set is topics_are next_is
-represents-restored permits saved ts next (Err error) set is topics_are next_is = tt
+represents-restored permits saved ts next (Ok k) set trees is topics_are next_is =
+    represents-over permits saved ts next k set trees is topics_are next_is
+represents-restored permits saved ts next (Err error) set trees is topics_are next_is = tt
 
 -- a server fails where its arms do
 pub well-after : {X E : Type 0} (r : Result X E) (b : Bool) → b ≡ is_err r → OnOk r (b ≡ false)
@@ -69,16 +70,16 @@ well-after (Ok s) b e = e
 well-after (Err error) b e = tt
 
 module _ {E : Type 0} (old : ServerState) (worker now : ℕ) (a : Act) where
-  pub step-steps : (r : Result Stepped E) (new : ServerState) → MayAct a → now < 2 ^ 63
+  pub step-steps : (r : Result Stepped E) (new : ServerState) → MayAct a → BringsTree a → now < 2 ^ 63
       → IfOk r (λ s. s.out ≡ reply old.state worker now a)
       → IfOk r (λ s. s.entry ≡ entry worker (max old.state.moment now) a s.out)
       → OnOk r (new.state ≡ acted old.state worker now a) → OnOk r (new.failed ≡ false)
       → IfOk r (λ s. (start : Start) (past : List Entry) → Represents old start past
       → Steps start past worker now a s.out s.entry new)
-  step-steps (Ok s) new may small out_is entry_is state_is well =
+  step-steps (Ok s) new may brings small out_is entry_is state_is well =
       λ start past represents.
-      step-acted start past old worker now a s.out s.entry new may small represents well out_is entry_is state_is
-  step-steps (Err error) new may small out_is entry_is state_is well = tt
+      step-acted start past old worker now a s.out s.entry new may brings small represents well out_is entry_is state_is
+  step-steps (Err error) new may brings small out_is entry_is state_is well = tt
 
   pub step-changes : (r : Result Stepped E)
       → IfOk r (λ s. s.entry ≡ entry worker (max old.state.moment now) a s.out)

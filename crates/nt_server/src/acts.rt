@@ -4,9 +4,11 @@ ghost use Rattle.std.specs.Prelude.{◌≡◌, ◌≤◌, ◌+◌, true, [], map
 ghost use Rattle.nt_rules.specs.history.Answer.{entry, drained_batch};
 ghost use Rattle.nt_rules.specs.history.State.{serves, drained_from, drained_answer, may_grant, acted_at, acted, reply, changes_by};
 ghost use Rattle.nt_rules.specs.history.Step.{IsPut, MayAct};
+ghost use Rattle.nt_rules.specs.history.Trees.{BringsTree};
 ghost use Rattle.nt_server.specs.View.{state_of, IsKept};
 
 use crate::inner::Inner;
+use nt_control::ClientMsg;
 use nt_rules::{Act, Batch, Cause, Changes, Deed, Entry, Msg, Outcome, StepOut};
 use nt_topics::{ClientName, Version};
 use std::alloc::{AllocError, Global};
@@ -29,6 +31,21 @@ fn handed(alloc: Global, out: &StepOut) -> Result<Batch, AllocError>
     match out {
         StepOut::Drained(batch) => batch.copy(alloc),
         _other => Ok(Batch::empty(alloc)),
+    }
+}
+
+/// Sees that the keys of the properties that an act publishes rise, as those of all `Props` do.
+pub fn see_tree(act: &Act)
+    ensures { BringsTree act.now }
+{
+    match act {
+        Act::Said {
+            msg: Msg::Control(ClientMsg::Publish { props, .. }),
+            ..
+        } => {
+            let _tree = props.tree();
+        }
+        _other => {}
     }
 }
 

@@ -12,7 +12,7 @@ ghost use Rattle.nt_rules.specs.history.Saved.{IsSavedSet, AreSaved};
 ghost use Rattle.nt_rules.specs.history.Step.{MayAct, Represents, Steps, IsEntryOf};
 ghost use Rattle.nt_server.specs.View.{begun};
 
-use crate::acts::Stepped;
+use crate::acts::{Stepped, see_tree};
 use crate::connections::OpenConnections;
 use crate::inner::Inner;
 use crate::restore::restored;
@@ -122,6 +122,7 @@ impl Server {
             drop(act);
             return Err(AllocError);
         }
+        see_tree(&act);
         let stepped = self.inner.step_well(alloc, worker, now, act);
         self.failed = stepped.is_err();
         stepped

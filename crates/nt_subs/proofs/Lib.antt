@@ -1,3 +1,9 @@
+pub mod Bytes
+pub mod Counted
+pub mod Heads
 pub mod Limits
+pub mod Indexed
 pub mod Indices
+pub mod Matched
+pub mod Ranks
 pub mod Sendable

@@ -1,6 +1,9 @@
 //! What a connection wants: its subscriptions.
 #![tactic(auto)]
 
+mod counts;
+mod given;
+mod index;
 mod set;
 mod sub;
 mod wish;

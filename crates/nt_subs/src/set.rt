@@ -1,10 +1,11 @@
 //! The subscriptions of a connection.
 
 ghost use Rattle.std.specs.Prelude.{◌≡◌, ◌<◌, ◌≤◌, ◌+◌, ◌-◌, ◌^◌, true, [], length, min, slice_get, Some, IfOk, OnOk, OnErr, Ok, Err};
-ghost use Rattle.nt_subs.specs.Subscriptions.{AreByUid, added, after, are_within, has_uid, index_of, size_of, without_sub};
+ghost use Rattle.nt_subs.specs.Index.{IsIndexed};
+ghost use Rattle.nt_subs.specs.Subscriptions.{AreByUid, added, after, are_within, has_uid, index_of, size_of, total_size, without_sub};
 ghost use Rattle.nt_subs.specs.Wishes.{wanted};
 
-use crate::wish::wish;
+use crate::index::Index;
 use crate::{Sub, Wanted};
 use std::alloc::{AllocError, Global};
 use std::cmp::Ordering;
@@ -33,16 +34,19 @@ pub struct SubSet {
     entries: Vec<(i64, Sub)>,
     // the sum of the sizes
     size: usize,
+    // where their names are looked up
+    names: Index,
 }
 
 impl Model for SubSet {
+    ghost use Rattle.nt_subs.specs.Index.{IsIndexed};
     ghost use Rattle.nt_subs.specs.Subscriptions.{Subs, IsKept};
 
     ghost Value = { Subs };
 
     ghost view = { λ s. s.entries.items };
 
-    ghost invariant = { λ s. IsKept s.entries.items s.size };
+    ghost invariant = { λ s. IsKept s.entries.items s.size × IsIndexed s.names s.entries.items };
 }
 
 impl SubSet {
@@ -53,6 +57,7 @@ impl SubSet {
         SubSet {
             entries: Vec::new(alloc),
             size: 0,
+            names: Index::new(alloc),
         }
     }
 
@@ -63,6 +68,7 @@ impl SubSet {
         Ok(SubSet {
             entries: copy_entries(alloc, &self.entries)?,
             size: self.size,
+            names: indexed(alloc, &self.entries)?,
         })
     }
 
@@ -75,7 +81,7 @@ impl SubSet {
         ensures err { OnErr result (self.new ≡ self.old) }
     {
         match index_of(self.entries.as_slice(), uid) {
-            Ok(index) => Ok(self.replace(index, uid, sub)),
+            Ok(index) => self.replace(index, uid, sub),
             Err(index) => self.insert(index, uid, sub),
         }
     }
@@ -87,7 +93,9 @@ impl SubSet {
     {
         match index_of(self.entries.as_slice(), uid) {
             Ok(index) => {
-                self.size -= size(&self.entries[index].1);
+                let sub = &self.entries[index].1;
+                self.size -= size(sub);
+                self.names.forget(sub);
                 self.entries.remove(index);
                 true
             }
@@ -99,11 +107,8 @@ impl SubSet {
     pub fn matches(&self, name: &str) -> Wanted
         ensures { result ≡ wanted self.now name.now }
     {
-        let mut greatest = Wanted::No;
-        for entry in &self.entries {
-            greatest = greatest.greater(wish(&entry.1, name));
-        }
-        greatest
+        let exact = self.names.exact.wish_of(name.as_bytes());
+        exact.greater(self.names.prefixes.wish_of_heads(name))
     }
 
     /// The number of subscriptions.
@@ -125,19 +130,23 @@ impl SubSet {
     }
 
     /// Adds a subscription in place of the one that stands there.
-    fn replace(&mut self, index: usize, uid: i64, sub: Sub) -> Added
+    fn replace(&mut self, index: usize, uid: i64, sub: Sub) -> Result<Added, AllocError>
         requires { index_of uid self.old ≡ Ok index }
-        ensures answer { result ≡ added uid sub self.old }
-        ensures subs { self.new ≡ after uid sub self.old }
+        ensures answer { IfOk result (λ answer. answer ≡ added uid sub self.old) }
+        ensures subs { OnOk result (self.new ≡ after uid sub self.old) }
+        ensures err { OnErr result (self.new ≡ self.old) }
     {
-        let others = self.size - size(&self.entries[index].1);
+        let old = &self.entries[index].1;
+        let others = self.size - size(old);
         let size = size(&sub);
         if MOST_SIZE - others < size {
-            return Added::TooMany;
+            return Ok(Added::TooMany);
         }
+        self.names.note(*self.entries.allocator(), &sub)?;
+        self.names.forget(old);
         self.entries[index] = (uid, sub);
         self.size = others + size;
-        Added::Replaced
+        Ok(Added::Replaced)
     }
 
     /// Adds a subscription where none stands.
@@ -151,7 +160,11 @@ impl SubSet {
         if self.entries.len() >= MOST_SUBS || MOST_SIZE - self.size < size {
             return Ok(Added::TooMany);
         }
-        self.entries.insert(index, (uid, sub))?;
+        self.names.note(*self.entries.allocator(), &sub)?;
+        if let Err(refused) = self.entries.insert(index, (uid, sub)) {
+            self.names.forget(&refused.value.1);
+            return Err(AllocError);
+        }
         self.size += size;
         Ok(Added::New)
     }
@@ -166,6 +179,18 @@ fn copy_entries(alloc: Global, entries: &[(i64, Sub)]) -> Result<Vec<(i64, Sub)>
         copied.push((entry.0, entry.1.copy(alloc)?))?;
     }
     Ok(copied)
+}
+
+/// An index of these subscriptions.
+fn indexed(alloc: Global, entries: &[(i64, Sub)]) -> Result<Index, AllocError>
+    requires { total_size entries.now ≤ 131_072 }
+    ensures { IfOk result (λ names. IsIndexed names entries.now) }
+{
+    let mut names = Index::new(alloc);
+    for entry in entries {
+        names.note(alloc, &entry.1)?;
+    }
+    Ok(names)
 }
 
 /// The index of a uid, or else the one where it would stand.

@@ -1,9 +1,9 @@
 //! How much a topic is wanted.
 
 ghost use Rattle.std.specs.Prelude.{◌≡◌};
-ghost use Rattle.nt_subs.specs.Wishes.{is_meant, strength, wish, greater};
+ghost use Rattle.nt_subs.specs.Wishes.{is_meant, strength, greater};
 
-use crate::{Options, Sub};
+use crate::Options;
 use nt_topics::is_special;
 
 /// How much a topic is wanted, from least to most ("Subscription Options").
@@ -13,7 +13,7 @@ pub enum Wanted {
     No,
     /// It is announced, and no value is sent.
     TopicOnly,
-    /// It is announced, and its newest value is sent.
+    /// It is announced, and its newest value is sent; each one, where the topic isn't cached.
     Newest,
     /// It is announced, and each value is sent.
     All,
@@ -35,19 +35,8 @@ impl Wanted {
     }
 }
 
-/// How much a subscription wants a topic.
-pub(crate) fn wish(sub: &Sub, name: &str) -> Wanted
-    ensures { result ≡ wish sub.now name.now }
-{
-    if sub.is_matched(name) {
-        strength(sub.options)
-    } else {
-        Wanted::No
-    }
-}
-
 /// What the options ask for.
-fn strength(options: Options) -> Wanted
+pub(crate) fn strength(options: Options) -> Wanted
     ensures { result ≡ strength options }
 {
     if options.topicsonly {

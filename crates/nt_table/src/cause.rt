@@ -6,7 +6,7 @@ ghost use Rattle.nt_table.specs.Index.{IsIndexed};
 ghost use Rattle.nt_rules.specs.topics.Topics.{is_named, room_cause, new_cause, publish_cause, put_cause_to, restore_cause};
 
 use crate::index::Index;
-use crate::lookup::{holds_newer, is_fit, is_saved_fit, is_too_long};
+use crate::lookup::{is_fit, is_older, is_saved_fit, is_too_long};
 use nt_rules::{Cause, LAST_ID, MOST_PUBLISHERS, MOST_TOPICS, Pub, Saved, Topic};
 use nt_topics::{Props, TopicName, is_special};
 use nt_values::Value;
@@ -70,7 +70,7 @@ pub fn put_cause(topic: &Topic, conn: u32, uid: i64, time: u64, value: &Value) -
 {
     if !is_fit(topic, conn, uid, value) {
         Some(Cause::OtherType)
-    } else if holds_newer(topic, time) {
+    } else if is_older(topic, time) {
         Some(Cause::Older)
     } else {
         None

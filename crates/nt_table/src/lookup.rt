@@ -136,8 +136,8 @@ fn publishes_as(publishers: &[Pub], typ: &str, conn: u32, uid: i64) -> bool
         .any(|p| is_publisher(p, conn, uid) && p.typ.as_str() == typ)
 }
 
-/// Whether the held value has a greater time.
-pub fn holds_newer(topic: &Topic, time: u64) -> bool
+/// Whether this time is older than that of the held value.
+pub fn is_older(topic: &Topic, time: u64) -> bool
     ensures { result ≡ is_older time topic.now.value }
 {
     match &topic.value {

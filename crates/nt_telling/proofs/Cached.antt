@@ -8,7 +8,7 @@ use Rattle.serde_json.specs.Find.{as_bool}
 use Rattle.nt_topics.specs.Properties.{updated, is_cached, members_in}
 use Rattle.nt_topics.proofs.Keys.{get-members_in}
 use Rattle.nt_rules.specs.declared.topic.Timed.{Timed}
-use Rattle.nt_telling.specs.Trees.{IsOrdered}
+use Rattle.nt_topics.specs.Trees.{IsOrdered}
 use Rattle.nt_telling.proofs.Updates.{applied, at_key, at_key-updated, said_of, over, ordered-updated}
 
 -- cached, and after each of the updates

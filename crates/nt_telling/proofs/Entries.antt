@@ -35,7 +35,8 @@ use Rattle.nt_laws.proofs.histories.Facts.{IsNumberedLives}
 use Rattle.nt_laws.proofs.topics.FoundLives.{rising-numbered, life-map, life-first, first-none, found-at, find-topics}
 use Rattle.nt_laws.proofs.topics.Turns.{setting-id, setting-name}
 use Rattle.nt_laws.proofs.marks.MarksById.{AreRising}
-use Rattle.nt_telling.specs.Trees.{IsOrdered, HasOrderedTree}
+use Rattle.nt_topics.specs.Trees.{IsOrdered}
+use Rattle.nt_rules.specs.history.Trees.{HasTreeIn}
 use Rattle.nt_telling.proofs.LifeKeys.{life-id}
 use Rattle.nt_telling.proofs.Growing.{Stays, stays-same, stays-put}
 use Rattle.nt_laws.proofs.topics.FoundLives.{found-passes}
@@ -343,7 +344,7 @@ module _ (n : Now) (worker conn : ℕ) (numbered : IsNumberedLives 1 n.lives) wh
 
   -- ---- each deed
 
-  said-came : (m : Msg) → HasOrderedTree (Said m) → is_traced m (cause_of n worker conn m) ≡ true → (k : ℕ)
+  said-came : (m : Msg) → HasTreeIn (Said m) → is_traced m (cause_of n worker conn m) ≡ true → (k : ℕ)
       → CameTo (n.place + 1) conn (set_on n worker conn (Said m)) (life_at k n.lives)
       (life_at k (lives_after (n.place + 1) n.lives conn m))
   said-came (msg.Control (Publish name uid typ props)) tree traced k =
@@ -366,7 +367,7 @@ module _ (n : Now) (worker conn : ℕ) (numbered : IsNumberedLives 1 n.lives) wh
   untraced-none (msg.Control (Unsubscribe uid)) e = refl
   untraced-none (msg.Put v) e = refl
 
-  pub client-came : (d : Deed) → HasOrderedTree d → (k : ℕ)
+  pub client-came : (d : Deed) → HasTreeIn d → (k : ℕ)
       → CameTo (n.place + 1) conn (set_on n worker conn d) (life_at k n.lives)
       (life_at k (after_deed n worker conn d).lives)
   client-came (Opened name) tree k = still None n.lives refl k

@@ -28,7 +28,8 @@ use Rattle.nt_laws.proofs.metas.MetaGrowth.{has_row, rows_of}
 use Rattle.nt_laws.proofs.metas.MetaOrder.{is-numbered, all-rows}
 use Rattle.nt_laws.proofs.marks.ClientMarks.{client-life}
 use Rattle.nt_laws.proofs.marks.GivenKeys.{IsPast, all-placed, given-past, next-past, unknown-announced, unknown-next}
-use Rattle.nt_telling.specs.Trees.{IsOrdered, AreTrees, HaveOrderedTrees}
+use Rattle.nt_topics.specs.Trees.{IsOrdered}
+use Rattle.nt_rules.specs.history.Trees.{HaveTreesIn, AreTrees}
 use Rattle.nt_telling.proofs.Lists.{found-has}
 use Rattle.nt_telling.proofs.LifeKeys.{IdsRise}
 use Rattle.nt_telling.proofs.Messages.{AreNamedOnce}
@@ -197,7 +198,7 @@ no-place p e = cc
 
 module _ (start : Start) (saved : IsSavedSet start.saved) where
   pub all-proper : (past : List Entry) → AllByRecursion (λ (s : Saved). IsOrdered s.props) start.saved
-      → HaveOrderedTrees past → Legal start past
+      → HaveTreesIn past → Legal start past
       → (k : ℕ) (l : Life) → life_at k (all_lives start past) ≡ Some l → IsProper l
   all-proper [] trees published legal k l e =
       found-has IsProper (λ m. m.id == k) (all_lives start []) l

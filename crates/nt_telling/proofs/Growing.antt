@@ -13,7 +13,7 @@ use Rattle.nt_rules.specs.topics.Puts.{Put, taken}
 use Rattle.nt_rules.specs.topics.Topics.{is_turned}
 use Rattle.nt_rules.specs.outbox.Marks.{is_meta}
 use Rattle.nt_rules.specs.history.Lives.{Life, Setting, taken_since_turn, turned_at, with_setting}
-use Rattle.nt_telling.specs.Trees.{IsOrdered}
+use Rattle.nt_topics.specs.Trees.{IsOrdered}
 use Rattle.nt_telling.proofs.Updates.{applied, applied-append, ordered-updated}
 use Rattle.nt_telling.proofs.Cached.{AllCached, Drops, ValueOk, cached-more, drops-more, drops-last}
 use Rattle.nt_telling.proofs.Messages.{put_at}

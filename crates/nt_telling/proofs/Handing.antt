@@ -16,7 +16,7 @@ use Rattle.nt_rules.specs.outbox.Marks.{option_items}
 use Rattle.nt_rules.specs.history.Lives.{Life, is_living}
 use Rattle.nt_rules.specs.history.Owed.{Account, is_announced, owed_end, owed_end_at, end_keys, keys_owed, life_at}
 use Rattle.nt_rules.specs.telling.Told.{told_from}
-use Rattle.nt_telling.specs.Trees.{IsOrdered}
+use Rattle.nt_topics.specs.Trees.{IsOrdered}
 use Rattle.nt_telling.proofs.Lists.{take-parts, take-nil}
 use Rattle.nt_telling.proofs.Lists.{take-all, filter-take, found-has}
 use Rattle.nt_telling.proofs.LifeKeys.{is_of, IdsRise, life-id, of_life, if_living, living_keys, ends_owed, rest_owed}

@@ -36,7 +36,7 @@ use Rattle.nt_laws.proofs.histories.Newcomer.{IsNew, account-new}
 use Rattle.nt_laws.proofs.outboxes.UnchangedPresent.{quiet-lives}
 use Rattle.nt_laws.proofs.metas.AllLives.{saved-fit}
 use Rattle.nt_laws.proofs.metas.MetaOrder.{connections-length, opens}
-use Rattle.nt_telling.specs.Trees.{AreTrees}
+use Rattle.nt_rules.specs.history.Trees.{AreTrees}
 use Rattle.nt_telling.proofs.Lists.{take-take}
 use Rattle.nt_telling.proofs.LifeKeys.{ends_owed, news_owed, values_owed, owed-parts, ends-texts, news-texts}
 use Rattle.nt_telling.proofs.LifeKeys.{values-values}

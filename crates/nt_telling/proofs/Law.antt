@@ -16,7 +16,8 @@ use Rattle.nt_rules.specs.history.Saved.{IsSavedSet}
 use Rattle.nt_rules.specs.history.Owed.{Account, account, behind, owed, messages, wish_for, wish_on, since_for}
 use Rattle.nt_rules.specs.telling.Told.{messages_in, told, told_from}
 use Rattle.nt_rules.specs.telling.Due.{Agrees, handed, held_by}
-use Rattle.nt_telling.specs.Trees.{AreTrees}
+use Rattle.nt_rules.specs.history.Step.{ServerState, Represents}
+use Rattle.nt_rules.specs.history.Trees.{AreTrees}
 use Rattle.nt_telling.proofs.Lists.{take-all, found-has}
 use Rattle.nt_telling.proofs.LifeKeys.{living_keys, ends_owed, rest_owed, owed-parts}
 use Rattle.nt_telling.proofs.Holding.{look, told-append}
@@ -135,3 +136,9 @@ law start past conn saved trees legal there quick =
               ∙ due.1,
           due.2,
         )
+
+-- So in every history for which a server stands.
+pub law-server : (server : ServerState) (start : Start) (past : List Entry) (conn : ℕ) → Represents server start past
+    → is_there (now_of start past).connections conn ≡ true → behind start past conn ≡ None
+    → Agrees start past conn (held_by start past conn)
+law-server server start past conn represents = law start past conn represents.start_is represents.trees represents.legal

@@ -14,7 +14,7 @@ use Rattle.nt_rules.specs.outbox.Keys.{Kind, Of_end, Of_publish, Of_setting, Of_
 use Rattle.nt_rules.specs.history.Lives.{Life, Setting, taken_since_turn}
 use Rattle.nt_rules.specs.history.Owed.{put_value}
 use Rattle.nt_rules.specs.telling.Told.{new_held, with_properties}
-use Rattle.nt_telling.specs.Trees.{IsOrdered}
+use Rattle.nt_topics.specs.Trees.{IsOrdered}
 use Rattle.nt_telling.proofs.Updates.{applied, applied-again, ordered-updated}
 use Rattle.nt_telling.proofs.Cached.{ValueOk, ok-updated, ok-announced, ok-first}
 use Rattle.nt_telling.proofs.Holding.{announced, valued, updated_held}

@@ -21,7 +21,7 @@ use Rattle.nt_laws.proofs.metas.MetaRows.{Row, life_of, meta_rows, row_at}
 use Rattle.nt_laws.proofs.metas.MetaGrowth.{Grown, grown-at, metas-grow}
 use Rattle.nt_laws.proofs.metas.MetaOrder.{FewSaved, is-numbered, meta-life, meta-rows-rise}
 use Rattle.nt_laws.proofs.marks.ClientMarks.{client-life}
-use Rattle.nt_telling.specs.Trees.{HasOrderedTree}
+use Rattle.nt_rules.specs.history.Trees.{HasTreeIn}
 use Rattle.nt_telling.proofs.Messages.{put_at}
 use Rattle.nt_telling.proofs.Growing.{Stays}
 use Rattle.nt_telling.proofs.Entries.{Came, CameTo, client-came, set-found}
@@ -155,7 +155,7 @@ module _ (start : Start) (past : List Entry) (e : Entry) (few : FewSaved start) 
       by true g f more = let same : r ≡ x = cc in ap (λ (y : Row). y.id) (sym same) ∙ eqb-true r.id k g
       by false g f more = more f
 
-  pub came : HasOrderedTree e.deed → (k : ℕ)
+  pub came : HasTreeIn e.deed → (k : ℕ)
       → CameTo (length past + 1) e.conn (set_on (now_of start past) e.worker e.conn e.deed)
       (life_at k (all_lives start past)) (life_at k (all_lives start (e ∷ past)))
   came tree k = by (nat_le first_meta k) refl

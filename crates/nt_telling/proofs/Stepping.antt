@@ -15,7 +15,7 @@ use Rattle.nt_rules.specs.history.Lives.{Life, Setting, is_living, with_setting}
 use Rattle.nt_rules.specs.history.Owed.{Account, is_announced, owed_publishes, owed_settings, reply_keys, topic_keys}
 use Rattle.nt_rules.specs.history.Owed.{value_keys, newest_keys, keys_owed, life_at, settings_after}
 use Rattle.nt_laws.proofs.topics.Turns.{setting-id, setting-name, setting-over}
-use Rattle.nt_telling.specs.Trees.{IsOrdered}
+use Rattle.nt_topics.specs.Trees.{IsOrdered}
 use Rattle.nt_telling.proofs.LifeKeys.{is_of, life-id, living_keys, ends_owed, rest_owed, owed-parts, own-rest, of_life}
 use Rattle.nt_telling.proofs.LifeKeys.{if_living}
 use Rattle.std.specs.Ordering.{int_eq}

@@ -11,7 +11,7 @@ use Rattle.serde_json.specs.Data.{Data, object, Members, no_members, member, put
 use Rattle.serde_json.specs.Find.{get_member}
 use Rattle.nt_topics.specs.Properties.{is_null, without, changed, changed_by, members_in, updated}
 use Rattle.nt_topics.proofs.Keys.{get_member-put_at}
-use Rattle.nt_telling.specs.Trees.{StandsBefore, Rise, IsOrdered}
+use Rattle.nt_topics.specs.Trees.{StandsBefore, Rise, IsOrdered}
 
 -- ---- keys
 

@@ -14,7 +14,7 @@ use Rattle.serde_json.specs.View.{view, members_view}
 use Rattle.serde_json.specs.declared.value.Value.{Value}
 use Rattle.nt_topics.specs.Properties.{is_null, members_in, decided, decided_by}
 
-abbrev Map : Type 0
+abbrev pub Map : Type 0
 Map = BTreeMap (String Global) Value
 
 -- after a key was removed from a map

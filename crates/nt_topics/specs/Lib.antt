@@ -2,3 +2,4 @@ pub mod Names
 pub mod Paths
 pub mod Properties
 pub mod TreeCode
+pub mod Trees

@@ -6,14 +6,15 @@ ghost use Rattle.serde_json.specs.Find.{get, get_member};
 ghost use Rattle.serde_json.specs.View.{view, members_view};
 ghost use Rattle.serde_json.specs.Written.{compact_text, has_float};
 ghost use Rattle.nt_topics.specs.Properties.{properties_of, update_of, is_properties, is_update, is_property, is_change, all_pass, updated, changed, changed_by, members_in, decided, decided_by, flag, is_persistent, is_retained, is_cached};
+ghost use Rattle.nt_topics.specs.Trees.{IsOrdered};
 
 use crate::tree::{keep_changes, keep_properties, text_length};
 use serde_json::{Map, Value};
 use std::alloc::{AllocError, Global};
 use std::marker::Model;
 
-/// The properties of a topic: a JSON object without null, whose numbers are whole. Contracts see
-/// its tree.
+/// The properties of a topic: a JSON object without null, whose numbers are whole and whose keys
+/// rise. Contracts see its tree.
 #[derive(Drop)]
 pub struct Props {
     tree: Value,
@@ -27,6 +28,7 @@ impl Model for Props {
     ghost use Rattle.serde_json.specs.View.{view as data_of};
     ghost use Rattle.serde_json.specs.Written.{compact_text};
     ghost use Rattle.nt_topics.specs.Properties.{is_properties};
+    ghost use Rattle.nt_topics.specs.Trees.{IsOrdered};
     ghost use Rattle.nt_topics.specs.TreeCode.{data_coded};
 
     ghost Value = { Data };
@@ -36,7 +38,7 @@ impl Model for Props {
     ghost view = { λ p. data_of p.tree };
 
     ghost invariant = { λ p. (is_properties (data_of p.tree) ≡ true)
-        × (p.len ≡ length (compact_text (data_of p.tree))) };
+        × (p.len ≡ length (compact_text (data_of p.tree))) × IsOrdered (data_of p.tree) };
 }
 
 impl Props {
@@ -79,6 +81,8 @@ impl Props {
         requires { all_pass is_property (members_view members.entries) ≡ true }
         ensures { IfOk result (λ props. props ≡ object (members_view members.entries)) }
     {
+        // a map says with its count that its keys rise
+        let _count = members.len();
         let tree = Value::Object(members);
         let len = text_length(alloc, &tree)?;
         Ok(Props { tree, len })
@@ -141,12 +145,13 @@ impl Props {
         self.len as u64
     }
 
-    /// The tree. It says these properties again, and holds no float.
+    /// The tree. It says these properties again, holds no float, and its keys rise.
     pub fn tree(&self) -> &Value
         ensures tree { view result.now ≡ self.now }
         ensures properties { is_properties self.now ≡ true }
         ensures again { properties_of self.now ≡ Some self.now }
         ensures whole { has_float self.now ≡ false }
+        ensures ordered { IsOrdered self.now }
     {
         &self.tree
     }

@@ -199,19 +199,19 @@ fn names_in_paths_have_at_most_256_bytes(rt: HostRuntime) -> Result<(), Fail> {
     Ok(())
 }
 
-const EXACT: Options = Options {
+pub(crate) const EXACT: Options = Options {
     all: false,
     topicsonly: false,
     prefix: false,
 };
 
-const PREFIX: Options = Options {
+pub(crate) const PREFIX: Options = Options {
     all: false,
     topicsonly: false,
     prefix: true,
 };
 
-fn sub_of(alloc: Global, names: &[&str], options: Options) -> Result<Sub, AllocError> {
+pub(crate) fn sub_of(alloc: Global, names: &[&str], options: Options) -> Result<Sub, AllocError> {
     let mut list = Names::empty(alloc);
     for name in names {
         list.push(Name::of(alloc, name)?)?;

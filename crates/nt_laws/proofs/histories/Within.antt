@@ -1,4 +1,4 @@
--- Moments and values of a history stay within their bounds.
+-- Moments and values of a history stay within their bounds, and the keys of its properties rise.
 use Rattle.std.proofs.Common.{◌<◌, ◌^◌, ℕ, List, [], ◌∷◌, arith}
 use Rattle.nt_rules.specs.declared.act.Act.{Act}
 use Rattle.nt_rules.specs.declared.act.Act.TheVariants as act
@@ -9,6 +9,7 @@ use Rattle.nt_rules.specs.declared.start.Start.{Start}
 use Rattle.nt_rules.specs.history.Now.{now_of}
 use Rattle.nt_rules.specs.history.Answer.{entry, moment_of, opened_deed, permit_deed}
 use Rattle.nt_rules.specs.history.Step.{MayAct, IsPutIn, AreWithin}
+use Rattle.nt_rules.specs.history.Trees.{BringsTree, HasTreeIn, AreTrees}
 use Rattle.nt_laws.proofs.histories.Lawful.{entry-now}
 
 -- the last moment is
@@ -55,3 +56,37 @@ entry-within start past worker now a o may small within =
       act-put worker (moment_of (now_of start past) now) a o may,
       within,
     )
+
+opened-tree : (o : StepOut) → HasTreeIn (opened_deed o)
+opened-tree (out.Opened c name) = tt
+opened-tree out.Done = tt
+opened-tree (out.Ignored cause) = tt
+opened-tree (out.Drained batch) = tt
+opened-tree out.Closed = tt
+opened-tree out.Permitted = tt
+opened-tree out.NoPermit = tt
+opened-tree out.Shut = tt
+
+permit-tree : (o : StepOut) → HasTreeIn (permit_deed o)
+permit-tree (out.Opened c name) = tt
+permit-tree out.Done = tt
+permit-tree (out.Ignored cause) = tt
+permit-tree (out.Drained batch) = tt
+permit-tree out.Closed = tt
+permit-tree out.Permitted = tt
+permit-tree out.NoPermit = tt
+permit-tree out.Shut = tt
+
+-- what an act enters has a tree with rising keys, where it publishes one
+act-tree : (worker moment : ℕ) (a : Act) (o : StepOut) → BringsTree a → HasTreeIn (entry worker moment a o).deed
+act-tree worker moment (act.Open name version) o brings = opened-tree o
+act-tree worker moment (act.Said conn m) o brings = brings
+act-tree worker moment (act.Drain conn budget) o brings = tt
+act-tree worker moment (act.Close conn) o brings = tt
+act-tree worker moment act.Permit o brings = permit-tree o
+act-tree worker moment act.Shut o brings = tt
+
+pub entry-trees : (start : Start) (past : List Entry) (worker moment : ℕ) (a : Act) (o : StepOut) → BringsTree a
+    → AreTrees start past → AreTrees start (entry worker moment a o ∷ past)
+entry-trees start past worker moment a o brings trees =
+    record { saved = trees.saved; published = (act-tree worker moment a o brings, trees.published) }

@@ -18,6 +18,7 @@ use Rattle.nt_rules.specs.declared.start.Start.{Start}
 use Rattle.nt_rules.specs.history.Now.{Now, is_traced, cause_of, now_of, connections_after, lives_after}
 use Rattle.nt_rules.specs.history.State.{State, said_to, if_taken, reply, acted}
 use Rattle.nt_rules.specs.history.Step.{ServerState, Represents, Steps, AllOwe, MayAct}
+use Rattle.nt_rules.specs.history.Trees.{BringsTree}
 use Rattle.nt_laws.proofs.metas.AllLives.{IsFitStart, saved-fit}
 use Rattle.nt_laws.proofs.metas.Rosters.{metas-stay}
 use Rattle.nt_laws.proofs.marks.WishChanges.{rows-subscribed}
@@ -177,12 +178,13 @@ reply-acted start past s worker now act.Shut fit legal kept owe =
 -- a server that answers and keeps what its state says makes a step of the history for which it stood
 pub step-acted : (start : Start) (past : List Entry) (old : ServerState) (worker now : ℕ) (a : Act) (o : StepOut)
     (e : Entry) (new : ServerState)
-    → MayAct a → now < 2 ^ 63 → Represents old start past → new.failed ≡ false
+    → MayAct a → BringsTree a → now < 2 ^ 63 → Represents old start past → new.failed ≡ false
     → o ≡ reply old.state worker now a → e ≡ entry worker (max old.state.moment now) a o → new.state
     ≡ acted old.state worker now a
     → Steps start past worker now a o e new
-step-acted start past old worker now a o e new may small represents well out_is entry_is state_is =
-    step-law start past old worker now a o e new fit.few may small represents well out_is entry_is state_is answers owes
+step-acted start past old worker now a o e new may brings small represents well out_is entry_is state_is =
+    step-law start past old worker now a o e new fit.few may brings small represents well out_is entry_is state_is
+    answers owes
   where
     fit : IsFitStart start
     fit = saved-fit start represents.start_is

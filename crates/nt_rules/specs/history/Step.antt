@@ -24,6 +24,7 @@ use Rattle.nt_rules.specs.history.Answer.{answer, entry, Legal, moment_of}
 use Rattle.nt_rules.specs.history.Marks.{marks_owed, held_place}
 use Rattle.nt_rules.specs.history.State.{State}
 use Rattle.nt_rules.specs.history.Saved.{IsSavedSet}
+use Rattle.nt_rules.specs.history.Trees.{AreTrees}
 
 -- a server: whether it met want of memory, and what it keeps
 pub record ServerState : Type 0 where
@@ -124,12 +125,13 @@ AreWithin (e ∷ past) = (e.now < 2 ^ 63) × IsPutIn e.deed × AreWithin past
 
 -- ---- the server
 
--- the server stands for the history: it begins with topics that can be restored, it is lawful, and what the server
--- keeps is what it says
+-- the server stands for the history: it begins with topics that can be restored, it is lawful, the keys of its
+-- properties rise, and what the server keeps is what it says
 pub record Represents (server : ServerState) (start : Start) (past : List Entry) : Type 0 where
   pub start_is : IsSavedSet start.saved
   pub within : AreWithin past
   pub legal : Legal start past
+  pub trees : AreTrees start past
   pub is_well : server.failed ≡ false
   pub core_is : core server.state ≡ core_of (now_of start past)
   pub opens_are : map plain server.state.opens ≡ map plain_of (open_ones (now_of start past).connections)

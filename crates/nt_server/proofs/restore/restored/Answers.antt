@@ -14,4 +14,4 @@ loop-one-preserved c =
     subst (λ (xs : List Saved). IsRestoring t.topics t.next xs saved) items c.loop-one.invariant in
     subst (λ (n : ℕ). IsRestoring c.begin.new.table.topics n rest saved) (sym c.in_ok-begin.ensures.next) (
     subst (λ (ts : List Topic). IsRestoring ts (t.next + 1) rest saved) (sym c.in_ok-begin.ensures.topics) (
-    restoring-more t.topics t.next c.in-Some.one rest saved h))
+    restoring-more t.topics t.next c.in-Some.one rest saved c.in_ok-begin.ensures.tree h))

@@ -17,7 +17,7 @@ returns-clause-steps c =
     → Represents k start past
     → Steps start past c.args.worker c.args.now c.args.act s.out s.entry new)) c.self.view_is
     (step-steps (the_view c.self.inside) c.args.worker c.args.now c.args.act c.step_well-stepped.result new
-    c.requires.may c.requires.now c.step_well-stepped.ensures.out c.step_well-stepped.ensures.entry
+    c.requires.may c.see_tree.ensures c.requires.now c.step_well-stepped.ensures.out c.step_well-stepped.ensures.entry
     c.step_well-stepped.ensures.state
     (well-after c.step_well-stepped.result c.is_err-self-inside.result c.is_err-self-inside.ensures.value))
 

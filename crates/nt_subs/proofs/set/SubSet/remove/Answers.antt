@@ -1,14 +1,16 @@
 use Rattle.std.proofs.Common.{◌≡◌, ◌-◌, ◌^◌, ap, sym, subst, ◌∙◌, Ok, Err, get_or, length, is_some, arith, lit<, w64}
 use Rattle.std.specs.Prelude.{remove}
 use Rattle.std.proofs.lemmas.Int.{to_z-of_z}
+use Rattle.nt_subs.specs.Index.{IsIndexed}
 use Rattle.nt_subs.specs.Subscriptions.{IsKept, index_of, size_of, without_sub}
 use Rattle.nt_subs.proofs.Limits.{found_old, size_old, kept_without}
+use Rattle.nt_subs.proofs.Indexed.{indexed_without}
 use Rattle.nt_subs.proofs.Indices.{stands, gap}
 use Rattle.nt_subs.proofs.set.SubSet.remove.Goals as goal
 
 pub index-requires : goal.index-requires
 index-requires c =
-    let kept = subst (λ s. IsKept s c.self.inside.size) c.self.view_is c.self.invariant in
+    let kept = subst (λ s. IsKept s c.self.inside.size) c.self.view_is c.self.invariant.0 in
     let uid = c.args.uid in
     let is : Ok c.in-Ok.index ≡ index_of uid c.args.self.now =
     rw (to_z-of_z w64 uid c.ranges.uid) at c.in-Ok.ensures
@@ -18,7 +20,7 @@ index-requires c =
 
 pub overflow_sub-self : goal.overflow_sub-self
 overflow_sub-self c =
-    let kept = subst (λ s. IsKept s c.self.inside.size) c.self.view_is c.self.invariant in
+    let kept = subst (λ s. IsKept s c.self.inside.size) c.self.view_is c.self.invariant.0 in
     let uid = c.args.uid in
     let subs = c.args.self.now in
     let index = c.in-Ok.index in
@@ -34,7 +36,7 @@ overflow_sub-self c =
 
 pub remove-requires : goal.remove-requires
 remove-requires c =
-    let kept = subst (λ s. IsKept s c.self.inside.size) c.self.view_is c.self.invariant in
+    let kept = subst (λ s. IsKept s c.self.inside.size) c.self.view_is c.self.invariant.0 in
     let uid = c.args.uid in
     let is : Ok c.in-Ok.index ≡ index_of uid c.args.self.now =
     rw (to_z-of_z w64 uid c.ranges.uid) at c.in-Ok.ensures
@@ -44,7 +46,7 @@ remove-requires c =
 
 -- what the set kept
 kept_of : (c : goal.After-drop-remove) → IsKept c.args.self.now c.self.inside.size
-kept_of c = subst (λ s. IsKept s c.self.inside.size) c.self.view_is c.self.invariant
+kept_of c = subst (λ s. IsKept s c.self.inside.size) c.self.view_is c.self.invariant.0
 
 -- the uid's index
 index_is : (c : goal.After-drop-remove) → index_of c.args.uid c.args.self.now ≡ Ok c.in-Ok.index
@@ -78,7 +80,12 @@ invariant_of-self c =
     let old = size_old uid subs held index (kept_of c) (index_is c) entry (entry_of c) (2 ^ 64 - 1)
     (lit< tt) in
     let size : c.size.result ≡ size_of entry.1 = c.size.ensures ∙ old.0 in
-    rw (new_of c, size) (kept_without uid subs held index (kept_of c) (index_is c) entry (entry_of c))
+    let stood = found_old uid subs held index (kept_of c) (index_is c) entry (entry_of c) in
+    let right : IsIndexed c.self.inside.names subs = subst (IsIndexed c.self.inside.names) c.self.view_is c.self.invariant.1 in
+    rw (new_of c, size) (
+      kept_without uid subs held index (kept_of c) (index_is c) entry (entry_of c),
+      indexed_without c.self.inside.names c.forget.new.self uid entry.1 subs right stood c.forget.ensures,
+    )
 
 pub returns-in-Ok : goal.returns-in-Ok
 returns-in-Ok c =
@@ -90,7 +97,7 @@ returns-in-Ok c =
 
 pub returns-in-Err : goal.returns-in-Err
 returns-in-Err c =
-    let kept = subst (λ s. IsKept s c.self.inside.size) c.self.view_is c.self.invariant in
+    let kept = subst (λ s. IsKept s c.self.inside.size) c.self.view_is c.self.invariant.0 in
     let uid = c.args.uid in
     let is : Err c.in-Err.field-0 ≡ index_of uid c.args.self.now =
     rw (to_z-of_z w64 uid c.ranges.uid) at c.in-Err.ensures

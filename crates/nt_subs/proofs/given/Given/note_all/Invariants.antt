@@ -1,0 +1,9 @@
+use Rattle.std.proofs.Common.{◌≡◌, ◌+◌, ℕ, List, take}
+use Rattle.nt_subs.specs.declared.wish.Wanted.{Wanted}
+use Rattle.nt_subs.specs.Index.{count, said, times_in}
+use Rattle.nt_subs.proofs.given.Given.note_all.Given as goal
+
+-- the names so far are given once more
+abbrev pub invariant-loop-place : goal.invariant-loop-place
+invariant-loop-place l = (w : Wanted) (n : List ℕ) → count w (said l.self n)
+    ≡ count w (said l.fn.self n) + times_in w n l.wish (take l.place l.names)

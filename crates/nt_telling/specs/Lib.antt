@@ -1,2 +1,0 @@
--- What the law of telling says.
-pub mod Trees
