@@ -17,7 +17,7 @@ static int check(const uint8_t *bytes, size_t size) {
         if (!take_record(&left, end, &record))
             return fault("Truncated", at);
         if (!take_item(&record, &item))
-            return fault("NotBuilt", at);
+            return fault("NotRead", at);
         if (item.letter == 'D') {
             last_time = item.time;
             last_value = item.value;

@@ -115,7 +115,7 @@ static const char *take_header(const uint8_t **left, const uint8_t *end) {
     const uint8_t *field;
     if (!take(left, end, sizeof header, &field))
         return "Truncated";
-    return memcmp(field, header, sizeof header) == 0 ? NULL : "NotBuilt";
+    return memcmp(field, header, sizeof header) == 0 ? NULL : "NotRead";
 }
 
 static int fault(const char *kind, size_t at) {

@@ -46,7 +46,7 @@ static int show(const uint8_t *bytes, size_t size) {
         if (!take_record(&left, end, &record))
             return fault("Truncated", at);
         if (!take_item(&record, &item))
-            return fault("NotBuilt", at);
+            return fault("NotRead", at);
         print_item(at, &item);
     }
     return 0;

@@ -1,5 +1,5 @@
 -- The escapes of a field, as `percent_encoding` writes them.
-use Rattle.std.proofs.Common.{◌≡◌, ℕ, zero, suc, ◌<◌, ◌≤◌, Bool, true, false, ◌&&◌, List, [], ◌∷◌, length, get_or, refl, arith}
+use Rattle.std.proofs.Common.{◌≡◌, ℕ, zero, suc, ◌<◌, ◌≤◌, Bool, true, false, ◌&&◌, List, [], ◌∷◌, length, get_or, refl, ap, arith}
 use Rattle.std.specs.Prelude.{not, ◌/◌, ◌%◌, codes, if◌then◌else◌}
 use Rattle.std.specs.Str.{bytes_eq}
 use Rattle.std.specs.List.{All}
@@ -79,3 +79,9 @@ not-equal xs ys other = by_test (bytes_eq xs ys) refl where
 -- a field that is neither empty nor `-` is its text with the escapes
 pub field-is : (text : List ℕ) → (text ≡ [] → ⊥) → (text ≡ codes "-" → ⊥) → escaped text ≡ field text
 field-is text filled other = rw (not-equal text [] filled, not-equal text (codes "-") other)
+
+-- the same of a text that is neither by its length and its first byte
+pub field-long : (text : List ℕ) → (length text < 1 → ⊥) → (length text ≡ 1 → get_or text 0 0 ≡ 45 → ⊥)
+    → escaped text ≡ field text
+field-long text filled other = field-is text (λ same. filled (omega (arith, ap length same)))
+    (λ same. other (ap length same) (ap (λ (w : List ℕ). get_or w 0 0) same))

@@ -1,7 +1,9 @@
-pub mod Inputs
 pub mod Escapes
-pub mod Replies
-pub mod Shows
+pub mod LogPrints
+pub mod LogFeeds
+pub mod LogReplies
+pub mod Parts
+pub mod ValueTells
 pub mod TellLines
 pub mod LineFeeds
 pub mod LineReplies

@@ -164,8 +164,9 @@ after_drains zero past now = past
 after_drains (suc k) past now =
     if is_empty (owed start past conn) then past else after_drains k (with_drain past now) now
 
--- ---- turns: a line is said at the moment of its number, which is the time that its questions are answered with, and then
--- what is owed is drained. One drain hands at least one message, so that as many drains are enough as messages are owed
+-- ---- turns: a line is said at the moment of its number, which is the time that its questions are answered with, and
+-- then what is owed is drained. One drain hands at least one message, so that as many drains are enough as messages are
+-- owed
 
 unfoldable pub turn_text : Decoding → List Entry → ℕ → List ℕ → List ℕ
 turn_text decode past number line =

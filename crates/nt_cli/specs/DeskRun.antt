@@ -1,5 +1,5 @@
 -- A desk at work: the history that its table stands for, and what it printed when it stopped.
-use Rattle.std.specs.Prelude.{◌≡◌, ◌≤◌, ℕ, ◌+◌, Bool, true, false, List, [], ◌++◌, length, Result, Ok, Err, Option, None, Some}
+use Rattle.std.specs.Prelude.{◌≡◌, ◌≤◌, ℕ, ◌+◌, Bool, true, List, [], ◌++◌, length, Result, Ok, Err, Option, None, Some}
 use Rattle.std.specs.Io.KnownBytes.{Consumes, IsAtEnd, Appends}
 use Rattle.nt_rules.specs.declared.act.Entry.{Entry}
 use Rattle.nt_rules.specs.history.Now.{now_of, is_open_for}
@@ -10,25 +10,13 @@ use Rattle.nt_cli.specs.declared.status.ToolFault.TheVariants.{Memory, Read, Wri
 use Rattle.nt_cli.specs.LineReading.{Ahead}
 use Rattle.nt_cli.specs.Reply.{Reply, IsGiven, IsPrefix, IsCutShort, with_text}
 use Rattle.nt_cli.specs.Printing.{number_of}
-use Rattle.nt_cli.specs.Input.{most_bytes, piece_bytes}
+use Rattle.nt_cli.specs.Input.{most_bytes, piece_bytes, Took, MayFollow}
 use Rattle.nt_cli.specs.Desk.{Decoding, start, worker, conn, opened, reply_within}
 
 -- the table stands for a history in which the desk's connection is open
 pub record IsConnected (server : ServerState) (past : List Entry) : Type 0 where
   pub represents : Represents server start past
   pub is_there : is_open_for (now_of start past).connections worker conn ≡ true
-
--- ---- what was taken of the source
-
--- these bytes were taken of the source, and are all that it had, where that is known
-pub record Took (before now : Option (List ℕ)) (taken : List ℕ) (all : Bool) : Type 0 where
-  pub consumes : Consumes before now taken
-  pub ended : all ≡ true → IsAtEnd now
-
--- what may stand after the bytes that were taken: nothing, where they are all
-abbrev pub MayFollow : Bool → List ℕ → Type 0
-MayFollow true more = more ≡ []
-MayFollow false more = Unit {0}
 
 -- ---- a desk in the midst of its work
 

@@ -1,9 +1,9 @@
 -- What a tool reads of its source.
-use Rattle.std.specs.Prelude.{ℕ, ◌+◌, ◌<◌, ◌≤◌, List, length}
+use Rattle.std.specs.Prelude.{◌≡◌, ℕ, ◌<◌, Bool, true, false, List, [], length}
 use Rattle.std.specs.declared.option.Option.{Option}
 use Rattle.std.specs.Io.KnownBytes.{Consumes, IsAtEnd}
-use Rattle.nt_cli.specs.declared.input.Input.{Input}
-use Rattle.nt_cli.specs.declared.input.Input.TheVariants.{All, TooMany}
+use Rattle.nt_cli.specs.declared.input.Came.{Came}
+use Rattle.nt_cli.specs.declared.input.Came.TheVariants.{Bytes, Beyond, End}
 
 -- the most bytes that a tool reads
 abbrev pub most_bytes : ℕ
@@ -13,20 +13,23 @@ most_bytes = 1_099_511_627_776
 abbrev pub piece_bytes : ℕ
 piece_bytes = 65_536
 
--- these bytes were all that the source had left
-pub record ReadsAll (before now : Option (List ℕ)) (bytes : List ℕ) : Type 0 where
-  pub taken : Consumes before now bytes
-  pub ended : IsAtEnd now
-  pub within : length bytes ≤ most_bytes
+-- ---- what was taken of the source
 
--- the source had more bytes left than a tool reads
-pub record ReadsTooMany (before now : Option (List ℕ)) : Type 0 where
-  pub bytes : List ℕ
-  pub taken : Consumes before now bytes
-  pub beyond : most_bytes < length bytes
-  pub bounded : length bytes ≤ most_bytes + piece_bytes
+-- these bytes were taken of the source, and are all that it had, where that is known
+pub record Took (before now : Option (List ℕ)) (taken : List ℕ) (all : Bool) : Type 0 where
+  pub consumes : Consumes before now taken
+  pub ended : all ≡ true → IsAtEnd now
 
--- what was read of the source
-abbrev pub IsInput : Option (List ℕ) → Option (List ℕ) → Input → Type 0
-IsInput before now (All bytes) = ReadsAll before now bytes.items
-IsInput before now TooMany = ReadsTooMany before now
+-- what may stand after the bytes that were taken: nothing, where they are all
+abbrev pub MayFollow : Bool → List ℕ → Type 0
+MayFollow true more = more ≡ []
+MayFollow false more = Unit {0}
+
+-- ---- what came of the source in one read
+
+-- of the bytes that came the first were kept, as many as may still be read, and others are left over: bytes within the
+-- limit, or more than that, or the end
+abbrev pub HasCome : Came → List ℕ → List ℕ → ℕ → Option (List ℕ) → Type 0
+HasCome Bytes kept over room now = (0 < length kept) × (over ≡ [])
+HasCome Beyond kept over room now = (room ≡ 0) × (0 < length over)
+HasCome End kept over room now = (kept ≡ []) × (over ≡ []) × IsAtEnd now

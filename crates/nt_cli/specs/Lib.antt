@@ -10,4 +10,4 @@ pub mod Hexadecimal
 pub mod Desk
 pub mod DeskRun
 pub mod Tool
-pub mod Show
+pub mod LogRun

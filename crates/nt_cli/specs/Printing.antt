@@ -1,5 +1,5 @@
 -- What stands printed where a tool ended.
-use Rattle.std.specs.Prelude.{◌≡◌, ℕ, List, Result, Ok, Err, Option}
+use Rattle.std.specs.Prelude.{ℕ, List, Result, Ok, Err, Option}
 use Rattle.std.specs.Io.KnownBytes.{Appends}
 use Rattle.nt_cli.specs.declared.status.Status.{Status}
 use Rattle.nt_cli.specs.declared.status.Status.TheVariants as statuses

@@ -10,7 +10,7 @@ use Rattle.nt_cli.specs.Reply.{Reply, IsGiven, IsCutShort}
 use Rattle.nt_cli.specs.Words.{tool_of}
 use Rattle.nt_cli.specs.Lines.{usage}
 use Rattle.nt_cli.specs.Printing.{number_of}
-use Rattle.nt_cli.specs.LogTools.{IsReply, RepliesToSource, StopsLog, EndsLog}
+use Rattle.nt_cli.specs.LogTools.{IsReply, RepliesToSource, StopsLog, HasBroken, EndsLog}
 use Rattle.nt_cli.specs.Desk.{RepliesAtDesk, RepliesToTaken, DeskBegun, DeskBroken, EndsDesk}
 
 -- ---- all words
@@ -51,10 +51,10 @@ StopsBy (Some Desk) before now out_before out_now = DeskBegun before now out_bef
 abbrev pub Stops : List (List ℕ) → Option (List ℕ) → Option (List ℕ) → Option (List ℕ) → Option (List ℕ) → Type 0
 Stops words before now out_before out_now = StopsBy (tool_of words) before now out_before out_now
 
--- what stands printed where a read failed: nothing, or, where a tool answers as it reads, a prefix of the reply
+-- what stands printed where a read failed: nothing, or, where a tool prints as it goes, a prefix of the reply
 abbrev pub UnreadBy : Option Tool → Option (List ℕ) → Option (List ℕ) → Option (List ℕ) → Option (List ℕ) → Type 0
 UnreadBy None before now out_before out_now = Keeps out_before out_now
-UnreadBy (Some (Log tool)) before now out_before out_now = Keeps out_before out_now
+UnreadBy (Some (Log tool)) before now out_before out_now = StopsLog tool before now out_before out_now
 UnreadBy (Some Desk) before now out_before out_now = DeskBegun before now out_before out_now
 
 -- the same of these words
@@ -65,8 +65,7 @@ Unread words before now out_before out_now = UnreadBy (tool_of words) before now
 abbrev pub UnwrittenBy : Option Tool → Option (List ℕ) → Option (List ℕ) → Option (List ℕ) → Option (List ℕ) → Type 0
 UnwrittenBy None before now out_before out_now = (reply : Reply) × DecidesBy None before now reply
     × IsCutShort reply out_before out_now
-UnwrittenBy (Some (Log tool)) before now out_before out_now = (reply : Reply) × RepliesToSource tool before now reply
-    × IsCutShort reply out_before out_now
+UnwrittenBy (Some (Log tool)) before now out_before out_now = HasBroken tool before now out_before out_now
 UnwrittenBy (Some Desk) before now out_before out_now = DeskBroken before now out_before out_now
 
 -- the same of these words

@@ -1,12 +1,14 @@
-//! Reading a source to its end.
+//! Reading a log of a source, piece by piece.
 
-ghost use Rattle.std.specs.Prelude.{IfOk, IsErrOf};
+ghost use Rattle.std.specs.Prelude.{IfOk, OnErr, IsErrOf, ◌≤◌, ◌++◌, ◌≡◌, List, ℕ, length};
+ghost use Rattle.std.specs.Io.KnownBytes.{Consumes};
 ghost use Rattle.nt_link.specs.Causes.{Rose, IsLater};
-ghost use Rattle.nt_cli.specs.Input.{IsInput};
+ghost use Rattle.nt_cli.specs.Input.{piece_bytes};
+ghost use Rattle.nt_cli.specs.LogRun.{Feeds};
 
 use crate::status::ToolFault;
 use nt_link::Source;
-use std::alloc::Global;
+use wpilog_read::LogReader;
 
 /// The most bytes that a tool reads.
 pub const MOST_BYTES: usize = 1 << 40;
@@ -14,34 +16,44 @@ pub const MOST_BYTES: usize = 1 << 40;
 /// How many bytes are asked for at a time.
 pub const PIECE: usize = 1 << 16;
 
-/// What a source had left.
-#[derive(Drop)]
-pub enum Input {
-    /// These bytes.
-    All(Vec<u8>),
-    /// More bytes than a tool reads.
-    TooMany,
+/// What came of a source in one read.
+#[derive(Clone, Copy)]
+pub enum Came {
+    /// Bytes, all of which may still be read.
+    Bytes,
+    /// More bytes than may still be read.
+    Beyond,
+    /// The end.
+    End,
 }
 
-/// Reads what the source has left.
-pub fn read_all<R: Source>(alloc: Global, source: &mut R) -> Result<Input, ToolFault>
-    ensures input { IfOk result (IsInput (R.left source.old) (R.left source.new)) }
+/// Reads a piece of the source, and hands the reader as much of it as there is room for.
+pub fn feed_piece<R: Source>(
+    source: &mut R,
+    piece: &mut [u8; PIECE],
+    reader: &mut LogReader,
+    room: &mut usize,
+) -> Result<Came, ToolFault>
+    ensures feeds { IfOk result (λ came. Feeds came (R.left source.old) (R.left source.new)
+        reader.old reader.new room.old room.new) }
+    ensures taken { OnErr result ((bytes : List ℕ) × (length bytes ≤ piece_bytes)
+        × Consumes (R.left source.old) (R.left source.new) bytes) }
     ensures read { IsErrOf result ToolFault.Read → Rose (R.faults source.old) (R.faults source.new) }
     ensures no_write { IsErrOf result ToolFault.Write → ⊥ }
     ensures source { IsLater R.faults R.aside source.old source.new }
 {
-    let mut bytes = Vec::new(alloc);
-    let mut piece = [0; PIECE];
-    loop {
-        let Ok(count) = source.read(&mut piece) else {
-            return Err(ToolFault::Read);
-        };
-        if count == 0 {
-            return Ok(Input::All(bytes));
-        }
-        if count > MOST_BYTES - bytes.len() {
-            return Ok(Input::TooMany);
-        }
-        bytes.extend_from_slice(&piece[..count])?;
+    let Ok(count) = source.read(piece) else {
+        return Err(ToolFault::Read);
+    };
+    if count == 0 {
+        return Ok(Came::End);
     }
+    if count > *room {
+        reader.feed(&piece[..*room])?;
+        *room = 0;
+        return Ok(Came::Beyond);
+    }
+    reader.feed(&piece[..count])?;
+    *room -= count;
+    Ok(Came::Bytes)
 }

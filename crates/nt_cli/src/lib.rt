@@ -1,7 +1,6 @@
 //! The commands of the program `nt`, over any source and sinks.
 #![tactic(auto)]
 
-mod check;
 mod desk;
 mod desk_output;
 mod hexadecimal;
@@ -9,11 +8,13 @@ mod input;
 mod item_line;
 mod laws;
 mod line;
+mod log_end;
+mod log_items;
 mod log_tool;
 mod messages;
 mod output;
+mod part;
 mod piece;
-mod show;
 mod status;
 mod tool;
 mod turn;

@@ -41,7 +41,7 @@ pub fn run_tool<R: Source, S: Sink, O: Sink>(
     // For want of memory nothing is printed, or a prefix of the reply where a tool prints as it goes.
     ensures memory { result ≡ 3 → Stops (map string_bytes words.now) (R.left source.old)
         (R.left source.new) (O.taken out.old) (O.taken out.new) }
-    // A read failed and nothing is printed, or a prefix of the reply where a tool answers as it reads,
+    // A read failed and nothing is printed, or a prefix of the reply where a tool prints as it goes,
     // or a write failed in the midst of the reply.
     ensures fault { result ≡ 4 →
         (Rose (R.faults source.old) (R.faults source.new)

@@ -7,7 +7,7 @@ use nt_cli::{UsageFault, run_tool, tool_files};
 use nt_link::{Failed, MemSink, MemSource, Source};
 use std::alloc::{AllocError, Global};
 use std::test::Fail;
-use wpilog_read_rows::{HEADER, START, VALUE};
+use wpilog_read_rows::{FINISH, HEADER, START, VALUE};
 
 pub const PUBLISH_A: &str =
     r#"[{"method":"publish","params":{"name":"/a","properties":{},"pubuid":1,"type":"int"}}]"#;
@@ -141,6 +141,24 @@ fn show_stops_where_a_later_write_fails(rt: HostRuntime) -> Result<(), Fail> {
     Ok(())
 }
 
+#[test]
+fn show_prints_items_before_a_read_that_fails(rt: HostRuntime) -> Result<(), Fail> {
+    let alloc = rt.alloc();
+    let words = strings(alloc, &["show", "log"])?;
+    let mut log = joined(alloc, &[&HEADER, &START])?;
+    for _ in 0..6_000 {
+        log.extend_from_slice(&VALUE)?;
+    }
+    let mut source = MemSource::new(log, Vec::from_slice(alloc, &[1])?);
+    let mut sink = MemSink::new(alloc, Vec::new(alloc));
+    let mut out = MemSink::new(alloc, Vec::new(alloc));
+    let answer = run_tool(alloc, &words, &mut source, &mut sink, &mut out);
+    assert_eq!(rt; answer, 4);
+    let first = b"@12 S 1000000 1 test int64 -\n@44 D 1000000 1 i64:3\n";
+    assert!(rt; out.taken().starts_with(first));
+    Ok(())
+}
+
 /// A source that gives a byte in a call.
 #[derive(Drop)]
 struct Drip {
@@ -179,5 +197,27 @@ fn desk_reads_lines_that_come_byte_by_byte(rt: HostRuntime) -> Result<(), Fail> 
     let words = strings(alloc, &["desk"])?;
     let status = run_tool(alloc, &words, &mut source, &mut sink, &mut out);
     assert_eq!(rt; (status, out.taken()), (0, told.as_bytes()));
+    Ok(())
+}
+
+/// Runs these words over bytes that come one by one, and compares the printed text and the status,
+/// which is to be 0.
+fn drips(alloc: Global, words: &[&str], bytes: Vec<u8>, text: &str) -> Result<bool, AllocError> {
+    let words = strings(alloc, words)?;
+    let mut source = Drip { bytes, at: 0 };
+    let mut sink = MemSink::new(alloc, Vec::new(alloc));
+    let mut out = MemSink::new(alloc, Vec::new(alloc));
+    let answer = run_tool(alloc, &words, &mut source, &mut sink, &mut out);
+    Ok(answer == 0 && out.taken() == text.as_bytes())
+}
+
+#[test]
+fn logs_are_read_that_come_byte_by_byte(rt: HostRuntime) -> Result<(), Fail> {
+    let alloc = rt.alloc();
+    let log = joined(alloc, &[&HEADER, &START, &VALUE, &FINISH])?;
+    assert!(rt; drips(alloc, &["check", "log"], log, "items 3 bytes 69\n")?);
+    let log = joined(alloc, &[&HEADER, &START, &VALUE, &FINISH])?;
+    let lines = "@12 S 1000000 1 test int64 -\n@44 D 1000000 1 i64:3\n@58 F 1000000 1\n";
+    assert!(rt; drips(alloc, &["show", "log"], log, lines)?);
     Ok(())
 }

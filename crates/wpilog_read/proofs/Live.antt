@@ -7,10 +7,10 @@ use Rattle.std.specs.Map.{lookup, remove_entry}
 use Rattle.std.specs.BTreeMap.{insert_entry, is_at}
 use Rattle.std.proofs.lemmas.Bool.{eqb-true, eqb-false, eq-eqb, ne_eqb}
 use Rattle.wpilog_write.specs.declared.item.LogItem.{LogItem}
-use Rattle.wpilog_write.specs.declared.item.LogItem.TheVariants.{Start, Value, Finish}
+use Rattle.wpilog_write.specs.declared.item.LogItem.TheVariants.{Start, Value, SetMeta, Finish}
 use Rattle.wpilog_write.specs.Log.{Entries, type_of, live_after, MayCome}
 use Rattle.wpilog_read.specs.declared.item_at.ItemAt.{ItemAt}
-use Rattle.wpilog_read.specs.Meaning.{AreItems, IsLog}
+use Rattle.wpilog_read.specs.Meaning.{AreItemsAt, IsLog}
 
 -- the order of two ids says whether they are one
 cmp-equal : (id other : ℕ) → nat_cmp id other ≡ Equal → id ≡ other
@@ -176,17 +176,19 @@ module _ {X : Type 0} where
 item-once : (live : Entries) (item : LogItem) → AreOnce live → MayCome live item → AreOnce (live_after live item)
 item-once live (Start time id name typ meta) once may = once-inserted live id _ (not-kept (type_of live id) may.1) once
 item-once live (Value time id value) once may = once
+item-once live (SetMeta time id meta) once may = once
 item-once live (Finish time id) once may = once-removed live id once
 
 -- and after all of them
 items-once : (items : List ItemAt) (at : ℕ) (live behind : Entries) (bytes : List ℕ) → AreOnce live
-    → AreItems at live bytes items behind → AreOnce behind
+    → AreItemsAt at live bytes items behind → AreOnce behind
 items-once [] at live behind bytes once is = subst (λ (w : Entries). AreOnce w) (sym is.1) once
 items-once (x ∷ xs) at live behind bytes once is = items-once xs (at + length is.0) (live_after live x.item) behind is.1
     (item-once live x.item once is.4.may_come) is.5
 
 -- after a Finish its entry is not live, and each other is as it was
-pub finish-ends : (bytes : List ℕ) (items : List ItemAt) (live : Entries) (time id other : ℕ) → IsLog bytes items live
+pub finish-ends : (bytes extra : List ℕ) (items : List ItemAt) (live : Entries) (time id other : ℕ)
+    → IsLog bytes extra items live
     → type_of (live_after live (Finish time id)) other ≡ cond (eqb other id) None (type_of live other)
-finish-ends bytes items live time id other log = at-removed live id other
-    (items-once items 12 [] live log.records tt log.items_are)
+finish-ends bytes extra items live time id other log = at-removed live id other
+    (items-once items (length log.header) [] live log.records tt log.items_are)

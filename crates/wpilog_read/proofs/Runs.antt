@@ -8,7 +8,7 @@ use Rattle.wpilog_read.specs.declared.fault.NextFault.TheVariants.{Log, Memory}
 use Rattle.wpilog_read.specs.declared.fault.Stop.{Stop}
 use Rattle.wpilog_read.specs.declared.fault.Stop.TheVariants.{Wanting, Known}
 use Rattle.wpilog_read.specs.declared.item_at.ItemAt.{ItemAt}
-use Rattle.wpilog_read.specs.Run.{Reading, start, fed, after_header, record_next, next_of, settle, broken, EndsBy, given, Reads, Ends, IsReading, StandsBy, Stands, IsEndedBy, IsEnded}
+use Rattle.wpilog_read.specs.Run.{Reading, begun, offset_of, start, fed, after_header, record_next, next_of, settle, broken, EndsBy, given, Reads, Ends, IsReading, StandsBy, Stands, IsEndedBy, IsEnded}
 use Rattle.wpilog_read.proofs.Steps.{done, ok_is}
 use Rattle.wpilog_read.proofs.Stable.{more, header-more, header-again, header-wrong, next-more, next-wrong, next-fault}
 
@@ -55,30 +55,36 @@ settle-more r piece = by_header (after_header r) refl where
       (settle-ok (more h piece) (more h piece) (header-more h h piece (header-again r h e).again))
   by_header (Err stop) e = rw (settle-err r stop e) refl
 
--- where a fault stands, it stays
+-- where a fault stands, it stays, and the extra header stays too
+record SameFault (r s : Reading) (kind : LogKind) : Type 0 where
+  offset : offset_of r kind ≡ offset_of s kind
+  extra : r.extra ≡ s.extra
+
 wrong-offset : (r : Reading) (piece : List ℕ) (kind : LogKind) → next_of r ≡ Err (Known kind)
-    → (settle (more r piece)).at ≡ (settle r).at
+    → SameFault (settle (more r piece)) (settle r) kind
 unfolding next_of
 wrong-offset r piece kind wrong = by_header (after_header r) refl where
-  by_header : (h : Result Reading Stop) → after_header r ≡ h → (settle (more r piece)).at ≡ (settle r).at
-  by_header (Ok h) e = rw (settle-ok r h e, settle-ok (more r piece) (more h piece) (header-more r h piece e)) refl
+  by_header : (h : Result Reading Stop) → after_header r ≡ h → SameFault (settle (more r piece)) (settle r) kind
+  by_header (Ok h) e = rw (settle-ok r h e, settle-ok (more r piece) (more h piece) (header-more r h piece e))
+      (record { offset = refl; extra = refl })
   by_header (Err stop) e =
       let stops = rw e at wrong in
       let same : stop ≡ Known kind = cc in
       let known : after_header r ≡ Err (Known kind) = rw (← same) e in
-      rw (settle-err r stop e, settle-err (more r piece) (Known kind) (header-wrong r kind piece known)) refl
+      rw (settle-err r stop e, settle-err (more r piece) (Known kind) (header-wrong r kind piece known))
+      (record { offset = refl; extra = refl })
 
 -- ---- after the header
 
 -- a header that was read is not read again, by the test
-opened_by : (begun : Bool) (r : Reading) (other : Result Reading Stop) → begun ≡ true → cond begun (done r) other ≡ Ok r
+opened_by : (test : Bool) (r : Reading) (other : Result Reading Stop) → test ≡ true → cond test (done r) other ≡ Ok r
 opened_by true r other e = refl
 opened_by false r other e = absurd cc
 
 -- a header that was read is not read again
-pub begun-opened : (r : Reading) → r.begun ≡ true → after_header r ≡ Ok r
+pub begun-opened : (r : Reading) → begun r ≡ true → after_header r ≡ Ok r
 unfolding after_header
-begun-opened r e = opened_by r.begun r _ e
+begun-opened r e = opened_by (begun r) r _ e
 
 -- after the header the next item is a record
 pub next-opened : (r : Reading) → after_header r ≡ Ok r → next_of r ≡ record_next r
@@ -129,6 +135,11 @@ pub Reads-settle : (xs : List ItemAt) (r s : Reading) → Reads r xs s → Reads
 Reads-settle [] r s reads = settle-settle s ∙ reads
 Reads-settle (x ∷ xs) r s reads = (reads.0, reads.1, Reads-settle xs reads.0 s reads.2)
 
+-- and so at a state that is the same but for the header
+Reads-same : (xs : List ItemAt) (r s t : Reading) → settle t ≡ settle s → Reads r xs s → Reads r xs t
+Reads-same [] r s t same reads = same ∙ reads
+Reads-same (x ∷ xs) r s t same reads = (reads.0, reads.1, Reads-same xs reads.0 s t same reads.2)
+
 -- no item follows
 abbrev pub IsLast : Reading → Type 0
 IsLast s = (y : ItemAt × Reading) → next_of s ≡ Ok y → ⊥
@@ -173,33 +184,39 @@ Ends-one (Err (Known kind)) s fault other a b = a ∙ sym b
 
 -- the run of a reader begins each reading of what it was fed
 stands-begins : (fault : Option LogFault) (bytes : List ℕ) (items others : List ItemAt) (r : Reading)
-    (other : Option LogFault) → StandsBy fault bytes items r → IsReading bytes others other
-    → (more : List ItemAt) × (others ≡ items ++ more)
-stands-begins None bytes items others r other stands reading =
-    Reads-begins items others (start bytes) r reading.0 stands reading.1
-    (Ends-last (next_of reading.0) (settle reading.0) other reading.2)
-stands-begins (Some fault) bytes items others r other stands reading =
-    Reads-begins items others (start bytes) stands.0 reading.0 stands.1 reading.1
-    (Ends-last (next_of reading.0) (settle reading.0) other reading.2)
+    (extra : Option (List ℕ)) (other : Option LogFault) → StandsBy fault bytes items r
+    → IsReading bytes extra others other → (more : List ItemAt) × (others ≡ items ++ more)
+stands-begins None bytes items others r extra other stands reading =
+    Reads-begins items others (start bytes) r reading.last stands reading.reads
+    (Ends-last (next_of reading.last) (settle reading.last) other reading.ends)
+stands-begins (Some fault) bytes items others r extra other stands reading =
+    Reads-begins items others (start bytes) stands.0 reading.last stands.1 reading.reads
+    (Ends-last (next_of reading.last) (settle reading.last) other reading.ends)
 
 -- the items that a reader gave begin each reading of what it was fed
-pub Stands-begins : (bytes : List ℕ) (items others : List ItemAt) (r : Reading) (fault : Option LogFault)
-    → Stands bytes items r → IsReading bytes others fault → (more : List ItemAt) × (others ≡ items ++ more)
-Stands-begins bytes items others r fault stands reading = stands-begins r.fault bytes items others r fault stands
-    reading
+pub Stands-begins : (bytes : List ℕ) (items others : List ItemAt) (r : Reading) (extra : Option (List ℕ))
+    (fault : Option LogFault) → Stands bytes items r → IsReading bytes extra others fault
+    → (more : List ItemAt) × (others ≡ items ++ more)
+Stands-begins bytes items others r extra fault stands reading =
+    stands-begins r.fault bytes items others r extra fault stands reading
 
 -- bytes have one reading
-pub one-reading : (bytes : List ℕ) (items others : List ItemAt) (fault other : Option LogFault)
-    → IsReading bytes items fault → IsReading bytes others other → (items ≡ others) × (fault ≡ other)
-one-reading bytes items others fault other a b =
-    let both = Reads-one items others (start bytes) a.0 b.0 a.1 b.1 (Ends-last (next_of a.0) (settle a.0) fault a.2)
-    (Ends-last (next_of b.0) (settle b.0) other b.2) in
-    let next : next_of a.0 ≡ next_of b.0 = next-same a.0 b.0 (sym both.1) in
-    let state : Ends (next_of a.0) (settle b.0) fault = subst (λ (w : Reading). Ends (next_of a.0) w fault) both.1 a.2
+pub one-reading : (bytes : List ℕ) (extra other_extra : Option (List ℕ)) (items others : List ItemAt)
+    (fault other : Option LogFault) → IsReading bytes extra items fault → IsReading bytes other_extra others other
+    → (extra ≡ other_extra) × (items ≡ others) × (fault ≡ other)
+one-reading bytes extra other_extra items others fault other a b =
+    let both = Reads-one items others (start bytes) a.last b.last a.reads b.reads
+    (Ends-last (next_of a.last) (settle a.last) fault a.ends) (Ends-last (next_of b.last) (settle b.last) other b.ends)
     in
-    let ends : Ends (next_of b.0) (settle b.0) fault = subst (λ (w : Result (ItemAt × Reading) Stop).
-    Ends w (settle b.0) fault) next state in
-    (both.0, Ends-one (next_of b.0) (settle b.0) fault other ends b.2)
+    let next : next_of a.last ≡ next_of b.last = next-same a.last b.last (sym both.1) in
+    let state : Ends (next_of a.last) (settle b.last) fault =
+    subst (λ (w : Reading). Ends (next_of a.last) w fault) both.1 a.ends in
+    let ends : Ends (next_of b.last) (settle b.last) fault = subst (λ (w : Result (ItemAt × Reading) Stop).
+    Ends w (settle b.last) fault) next state in (
+      a.extra_is ∙ ap (λ (w : Reading). w.extra) both.1 ∙ sym b.extra_is,
+      both.0,
+      Ends-one (next_of b.last) (settle b.last) fault other ends b.ends,
+    )
 
 -- ---- a reader in the midst of a run
 
@@ -219,14 +236,12 @@ fed-by : (bytes piece : List ℕ) (items : List ItemAt) (r : Reading) (fault : O
     → StandsBy fault bytes items r → StandsBy fault (bytes ++ piece) items (cond (is_some fault) r (more r piece))
 fed-by bytes piece items r None e stands = Reads-more items (start bytes) r piece stands
 fed-by bytes piece items r (Some fault) e s =
-    let at : (settle (more s.0 piece)).at ≡ (settle s.0).at = wrong-offset s.0 piece fault.kind s.2 in (
+    let same = wrong-offset s.0 piece fault.kind s.2 in (
       more s.0 piece,
       Reads-more items (start bytes) s.0 piece s.1,
       next-wrong s.0 piece fault.kind s.2,
-      s.3 ∙ ap (λ (n : ℕ). record {
-        at = n;
-        kind = fault.kind;
-      }) (sym at),
+      s.3 ∙ ap (λ (n : ℕ). record { at = n; kind = fault.kind }) (sym same.offset),
+      s.4 ∙ sym same.extra,
     )
 
 -- more bytes change no fault
@@ -256,12 +271,25 @@ Stands-none bytes items r m none e stands =
     rw e (Stands-from bytes items (settle r) (settle-fault r ∙ none)
     (Reads-settle items (start bytes) r (Stands-going bytes items r none stands)))
 
+-- and so where only the header may have been taken
+Stands-memory : (bytes : List ℕ) (items : List ItemAt) (r m : Reading) → r.fault ≡ None → settle m ≡ settle r
+    → Stands bytes items r → Stands bytes items m
+Stands-memory bytes items r m none same stands =
+    let fault : m.fault ≡ None = sym (settle-fault m) ∙ ap (λ (w : Reading). w.fault) same ∙ settle-fault r ∙ none in
+    Stands-from bytes items m fault (Reads-same items (start bytes) r m same (Stands-going bytes items r none stands))
+
 -- and so with a fault that is known now
 Stands-broken : (bytes : List ℕ) (items : List ItemAt) (r m : Reading) (fault : LogFault) → r.fault ≡ None
-    → next_of r ≡ Err (Known fault.kind) → fault.at ≡ (settle r).at → m ≡ broken fault (settle r) → Stands bytes items r
-    → Stands bytes items m
+    → next_of r ≡ Err (Known fault.kind) → fault.at ≡ offset_of (settle r) fault.kind → m ≡ broken fault (settle r)
+    → Stands bytes items r → Stands bytes items m
 Stands-broken bytes items r m fault none wrong at e stands =
-    rw e (r, Stands-going bytes items r none stands, wrong, ap (λ (n : ℕ). record { at = n; kind = fault.kind }) at)
+    rw e (
+      r,
+      Stands-going bytes items r none stands,
+      wrong,
+      ap (λ (n : ℕ). record { at = n; kind = fault.kind }) at,
+      refl,
+    )
 
 -- where nothing follows reading may end
 IsEnded-none : (r m : Reading) → r.fault ≡ None → m ≡ settle r → next_of r ≡ Err Wanting → IsEnded m
@@ -288,7 +316,7 @@ Steps-stands r m (Ok None) none s bytes items stands = rw append-nil (Stands-non
 Steps-stands r m (Err (Log fault)) none s bytes items stands =
     rw append-nil (Stands-broken bytes items r m fault none s.fault.0 s.fault.1 s.fault.2 stands)
 Steps-stands r m (Err Memory) none s bytes items stands = rw append-nil
-    (Stands-none bytes items r m none s.fault stands)
+    (Stands-memory bytes items r m none s.fault stands)
 
 -- where a step gave none for another cause than memory reading may end
 pub Steps-ended : (r m : Reading) (result : Result (Option ItemAt) NextFault) → r.fault ≡ None → Steps r m result

@@ -1,12 +1,12 @@
 -- Steps of reading: what those took that did not stop, and where a chain stopped.
-use Rattle.std.proofs.Common.{◌≡◌, ℕ, ◌≤◌, Bool, true, false, cond, ◌⊎◌, inl, inr, List, ◌++◌, length, take, drop, Result, Ok, Err, refl, sym, ap, subst, ◌∙◌, arith, ltb}
+use Rattle.std.proofs.Common.{◌≡◌, ℕ, ◌≤◌, Bool, true, false, cond, ◌⊎◌, inl, inr, List, ◌++◌, length, take, drop, Result, Ok, Err, refl, sym, ap, subst, ◌∙◌, append_assoc, arith, ltb}
 use Rattle.std.proofs.lemmas.Bool.{ltb-false, le-ltb}
 use Rattle.std.proofs.lemmas.List.{take-append-drop, take_at, drop_at, length-append, length-take}
-use Rattle.wpilog_write.specs.Log.{number}
+use Rattle.wpilog_write.specs.Log.{number, IsString}
 use Rattle.wpilog_read.specs.declared.fault.LogKind.{LogKind}
 use Rattle.wpilog_read.specs.declared.fault.Stop.{Stop}
-use Rattle.wpilog_read.specs.declared.fault.Stop.TheVariants.{Known}
-use Rattle.wpilog_read.specs.Reading.{◌>>=◌, unless, bytes_at, number_at}
+use Rattle.wpilog_read.specs.declared.fault.Stop.TheVariants.{Wanting, Known}
+use Rattle.wpilog_read.specs.Reading.{◌>>=◌, unless, bytes_at, number_at, string_at}
 
 -- a value, and a stop, as answers of a step
 abbrev pub done : {A : Type 0} → A → Result A Stop
@@ -68,7 +68,17 @@ pub unless-stops : (test : Bool) (kind : LogKind) → StopsAt (Known kind) (unle
 unless-stops test kind = cond-stops (Known kind) test (Err (Known kind)) (Ok tt) (err-stops (Known kind))
     (ok-stops (Known kind) tt)
 
+-- a step that wants bytes knows no fault
+pub wanting-unknown : {A : Type 0} (r : Result A Stop) (kind : LogKind) → StopsAt Wanting r → r ≡ Err (Known kind) → ⊥
+wanting-unknown r kind stops e = let same : Known kind ≡ Wanting = stops (Known kind) e in cc
+
 -- ---- tests
+
+-- a test that stopped
+pub unless_err : (test : Bool) (kind : LogKind) (stop : Stop) → unless test kind ≡ Err stop
+    → (test ≡ true) × (stop ≡ Known kind)
+unless_err true kind stop e = (refl, sym (err_is (Known kind) stop e))
+unless_err false kind stop e = absurd (ok_no_err tt stop e)
 
 -- a test that did not stop
 pub guard_ok : {A : Type 0} (test : Bool) (stop : Stop) (r : Result A Stop) (y : A) → cond test (Err stop) r ≡ Ok y
@@ -154,3 +164,41 @@ pub number_at-stops : (stop : Stop) (n : ℕ) (bytes : List ℕ) → StopsAt sto
 unfolding number_at
 number_at-stops stop n bytes = bind-stops stop (bytes_at stop n bytes) _ (bytes_at-stops stop n bytes)
     (λ field. ok-stops stop _)
+
+-- ---- texts
+
+-- a text that was taken from the prefix
+pub record TakesString (bytes text rest : List ℕ) : Type 0 where
+  pub prefix : List ℕ
+  pub is : IsString prefix text
+  pub parts : bytes ≡ prefix ++ rest
+
+-- what is read is spelled so
+pub string_at-takes : (stop : Stop) (bytes : List ℕ) (x : List ℕ × List ℕ) → string_at stop bytes ≡ Ok x
+    → TakesString bytes x.0 x.1
+unfolding string_at
+string_at-takes stop bytes x e =
+    let a = bind_ok (number_at stop 4 bytes) (λ len. bytes_at stop len.0 len.1) x e in
+    let n = number_at-takes stop 4 bytes a.0 a.1 in
+    let t = bytes_at-takes stop a.0.0 a.0.1 x a.2 in
+    record {
+      prefix = n.field ++ x.0;
+      is = record { len = n.field; len_is = record { len_is = n.len; value = n.is ∙ sym t.len }; whole = refl };
+      parts = parts_then n.field n.parts t.parts ∙ sym (append_assoc n.field x.0 x.1);
+    }
+
+-- what is spelled so is read, whatever follows
+pub string_at-again : (stop : Stop) (prefix text rest : List ℕ) → IsString prefix text
+    → string_at stop (prefix ++ rest) ≡ Ok (text, rest)
+unfolding string_at
+string_at-again stop prefix text rest h =
+    let parts : prefix ++ rest ≡ h.len ++ (text ++ rest) = ap (λ (w : List ℕ). w ++ rest) h.whole
+    ∙ append_assoc h.len text rest in
+    rw (parts, number_at-again stop 4 h.len (text ++ rest) h.len_is.len_is, h.len_is.value)
+    (bytes_at-again stop (length text) text rest refl)
+
+-- only missing bytes stop it
+pub string_at-stops : (stop : Stop) (bytes : List ℕ) → StopsAt stop (string_at stop bytes)
+unfolding string_at
+string_at-stops stop bytes = bind-stops stop (number_at stop 4 bytes) _ (number_at-stops stop 4 bytes)
+    (λ len. bytes_at-stops stop len.0 len.1)

@@ -10,8 +10,32 @@ use thiserror::Error;
 /// A kind of fault.
 #[derive(Clone, Copy, Debug, PartialEq, Eq)]
 pub enum LogKind {
-    /// The next whole unit is none that is read today.
-    NotBuilt,
+    /// The log does not begin as one does.
+    BadMagic,
+    /// The major version is not 1.
+    BadVersion,
+    /// The extra header or a payload is past its limit.
+    TooLarge,
+    /// The spare bit of a record's first byte is set.
+    SpareBit,
+    /// A record of an entry that is not live.
+    NotLive,
+    /// The payload of a control record ends before its fields do.
+    ControlShort,
+    /// A control record of no known kind.
+    UnknownControl,
+    /// Bytes follow the fields of a control record.
+    ControlLong,
+    /// A name, a type string or metadata is not UTF-8.
+    BadText,
+    /// A Start of the id 0.
+    IdZero,
+    /// A Start of a live id.
+    StartTwice,
+    /// A Start where as many entries as may be are live.
+    TooManyLive,
+    /// A value that is not of its entry's type.
+    Misfit,
     /// Bytes or the header are wanting.
     Truncated,
 }
@@ -24,13 +48,26 @@ impl fmt::Display for LogKind {
 
     fn fmt<W: fmt::Write>(&self, f: &mut fmt::Formatter<W>) -> fmt::Result {
         match self {
-            LogKind::NotBuilt => write!(f, "NotBuilt"),
+            LogKind::BadMagic => write!(f, "BadMagic"),
+            LogKind::BadVersion => write!(f, "BadVersion"),
+            LogKind::TooLarge => write!(f, "TooLarge"),
+            LogKind::SpareBit => write!(f, "SpareBit"),
+            LogKind::NotLive => write!(f, "NotLive"),
+            LogKind::ControlShort => write!(f, "ControlShort"),
+            LogKind::UnknownControl => write!(f, "UnknownControl"),
+            LogKind::ControlLong => write!(f, "ControlLong"),
+            LogKind::BadText => write!(f, "BadText"),
+            LogKind::IdZero => write!(f, "IdZero"),
+            LogKind::StartTwice => write!(f, "StartTwice"),
+            LogKind::TooManyLive => write!(f, "TooManyLive"),
+            LogKind::Misfit => write!(f, "Misfit"),
             LogKind::Truncated => write!(f, "Truncated"),
         }
     }
 }
 
-/// A fault, and its offset in the log: how many bytes stand before it.
+/// A fault, and its offset in the log. It is that of the record's first byte; in the header it is 6
+/// for `BadVersion`, 8 for `TooLarge`, and else 0.
 #[derive(Clone, Copy, Debug, PartialEq, Eq, Error)]
 #[error("{kind} at {at}")]
 pub struct LogFault {

@@ -2,16 +2,16 @@
 
 ghost use Rattle.std.specs.Prelude.{◌≡◌};
 ghost use Rattle.wpilog_write.specs.Log.{Fields, is_live};
-ghost use Rattle.wpilog_read.specs.Reading.{Gives, StartFields, start_fields, start_of, finish_of, control_of, typed_value, value_of, item_of};
+ghost use Rattle.wpilog_read.specs.Reading.{Gives, StartFields, start_fields, start_of, finish_of, set_meta_of, control_of, value_of, item_of};
 
-use crate::fault::{LogKind, ReadError};
-use crate::field::{NOT_BUILT, Record, number_of, refuse_if, string_of, text_from, u32_of};
+use crate::fault::{LogKind, ReadError, Stop};
+use crate::field::{Record, SHORT, refuse_if, string_of, text_from, u32_of};
+use crate::value::value_of_type;
 use std::alloc::Global;
-use std::collections::BTreeMap;
-use wpilog_write::{LogItem, LogType, LogValue};
+use wpilog_write::{Entries, LogItem};
 
-/// The live entries, with their types.
-pub type Entries = BTreeMap<u32, LogType>;
+/// The most entries that are live at a time.
+const MOST_LIVE: usize = 65_536;
 
 /// The fields of a Start record, after its first byte ("Start").
 #[derive(Clone, Copy)]
@@ -28,11 +28,11 @@ fn start_record(bytes: &[u8]) -> Result<StartRecord<'_>, ReadError>
         (λ x. record { id = x.id; name = x.name.now; typ = x.typ.now; meta = x.meta.now })
         result (start_fields bytes.now) }
 {
-    let (id, rest) = u32_of(NOT_BUILT, 4, bytes)?;
-    let (name, rest) = string_of(rest)?;
-    let (typ, rest) = string_of(rest)?;
-    let (meta, rest) = string_of(rest)?;
-    refuse_if(!rest.is_empty(), LogKind::NotBuilt)?;
+    let (id, rest) = u32_of(SHORT, 4, bytes)?;
+    let (name, rest) = string_of(SHORT, rest)?;
+    let (typ, rest) = string_of(SHORT, rest)?;
+    let (meta, rest) = string_of(SHORT, rest)?;
+    refuse_if(!rest.is_empty(), LogKind::ControlLong)?;
     Ok(StartRecord {
         id,
         name,
@@ -50,9 +50,9 @@ fn start_from(alloc: Global, live: &Entries, time: u64, bytes: &[u8]) -> Result<
     let name = text_from(alloc, start.name)?;
     let typ = text_from(alloc, start.typ)?;
     let meta = text_from(alloc, start.meta)?;
-    refuse_if(start.id == 0, LogKind::NotBuilt)?;
-    refuse_if(live.contains_key(&start.id), LogKind::NotBuilt)?;
-    refuse_if(typ.as_str() != "int64", LogKind::NotBuilt)?;
+    refuse_if(start.id == 0, LogKind::IdZero)?;
+    refuse_if(live.contains_key(&start.id), LogKind::StartTwice)?;
+    refuse_if(live.len() >= MOST_LIVE, LogKind::TooManyLive)?;
     Ok(LogItem::Start {
         time,
         id: start.id,
@@ -67,10 +67,28 @@ fn start_from(alloc: Global, live: &Entries, time: u64, bytes: &[u8]) -> Result<
 fn finish_from(live: &Entries, time: u64, bytes: &[u8]) -> Result<LogItem, ReadError>
     ensures { Gives (λ x. x) result (finish_of live.now.entries time bytes.now) }
 {
-    let (id, rest) = u32_of(NOT_BUILT, 4, bytes)?;
-    refuse_if(!rest.is_empty(), LogKind::NotBuilt)?;
-    refuse_if(!live.contains_key(&id), LogKind::NotBuilt)?;
+    let (id, rest) = u32_of(SHORT, 4, bytes)?;
+    refuse_if(!rest.is_empty(), LogKind::ControlLong)?;
+    refuse_if(!live.contains_key(&id), LogKind::NotLive)?;
     Ok(LogItem::Finish { time, id })
+}
+
+/// An entry's metadata changes ("Set Metadata").
+#[tactic(auto, unfolding(crate::specs::Reading::set_meta_of))]
+fn set_meta_from(
+    alloc: Global,
+    live: &Entries,
+    time: u64,
+    bytes: &[u8],
+) -> Result<LogItem, ReadError>
+    ensures { Gives (λ x. x) result (set_meta_of live.now.entries time bytes.now) }
+{
+    let (id, rest) = u32_of(SHORT, 4, bytes)?;
+    let (meta, rest) = string_of(SHORT, rest)?;
+    refuse_if(!rest.is_empty(), LogKind::ControlLong)?;
+    let meta = text_from(alloc, meta)?;
+    refuse_if(!live.contains_key(&id), LogKind::NotLive)?;
+    Ok(LogItem::SetMeta { time, id, meta })
 }
 
 /// What a record of entry 0 says ("Control Records").
@@ -84,37 +102,32 @@ fn control_from(
     ensures { Gives (λ x. x) result (control_of live.now.entries time payload.now) }
 {
     let [kind, rest @ ..] = payload else {
-        return Err(ReadError::Stop(NOT_BUILT));
+        return Err(ReadError::Stop(SHORT));
     };
     match *kind {
         0 => start_from(alloc, live, time, rest),
         1 => finish_from(live, time, rest),
-        _ => Err(ReadError::Stop(NOT_BUILT)),
-    }
-}
-
-/// A value of this type ("Data Types").
-#[inline]
-#[tactic(auto, unfolding(crate::specs::Reading::typed_value))]
-fn value_of_type(typ: LogType, payload: &[u8]) -> Result<LogValue, ReadError>
-    ensures { Gives (λ x. x) result (typed_value typ payload.now) }
-{
-    match (typ, payload.len()) {
-        (LogType::Int64, 8) => Ok(LogValue::Int64(number_of(payload).cast_signed())),
-        _ => Err(ReadError::Stop(NOT_BUILT)),
+        2 => set_meta_from(alloc, live, time, rest),
+        _ => Err(ReadError::Stop(Stop::Known(LogKind::UnknownControl))),
     }
 }
 
 /// A live entry takes a value.
 #[inline]
 #[tactic(auto, unfolding(crate::specs::Reading::value_of))]
-fn value_from(live: &Entries, time: u64, id: u32, payload: &[u8]) -> Result<LogItem, ReadError>
+fn value_from(
+    alloc: Global,
+    live: &Entries,
+    time: u64,
+    id: u32,
+    payload: &[u8],
+) -> Result<LogItem, ReadError>
     ensures { Gives (λ x. x) result (value_of live.now.entries time id payload.now) }
 {
     let Some(typ) = live.get(&id) else {
-        return Err(ReadError::Stop(NOT_BUILT));
+        return Err(ReadError::Stop(Stop::Known(LogKind::NotLive)));
     };
-    let value = value_of_type(*typ, payload)?;
+    let value = value_of_type(alloc, *typ, payload)?;
     Ok(LogItem::Value { time, id, value })
 }
 
@@ -122,13 +135,11 @@ fn value_from(live: &Entries, time: u64, id: u32, payload: &[u8]) -> Result<LogI
 #[tactic(auto, unfolding(crate::specs::Reading::item_of))]
 pub fn item_from(alloc: Global, live: &Entries, fields: &Record<'_>) -> Result<LogItem, ReadError>
     ensures { Gives (λ x. x) result (item_of live.now.entries
-        (record { spare = fields.now.spare; entry = fields.now.entry; time = fields.now.time; payload = fields.now.payload.now })) }
+        (record { entry = fields.now.entry; time = fields.now.time; payload = fields.now.payload.now })) }
 {
-    if fields.spare {
-        Err(ReadError::Stop(NOT_BUILT))
-    } else if fields.entry == 0 {
+    if fields.entry == 0 {
         control_from(alloc, live, fields.time, fields.payload)
     } else {
-        value_from(live, fields.time, fields.entry, fields.payload)
+        value_from(alloc, live, fields.time, fields.entry, fields.payload)
     }
 }

@@ -7,6 +7,7 @@ mod item;
 mod item_at;
 mod laws;
 mod reader;
+mod value;
 mod whole;
 
 pub use fault::{LogFault, LogKind, NextFault};

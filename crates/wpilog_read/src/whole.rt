@@ -62,19 +62,31 @@ pub fn take_items(
 /// What a log in pieces was read as.
 #[derive(Drop)]
 pub struct LogRead {
+    /// The extra header, where the header is whole and lawful.
+    pub extra: Option<Bytes>,
     /// All items before the end or the fault, in their order.
     pub items: Vec<ItemAt>,
     /// None where the log is whole.
     pub fault: Option<LogFault>,
 }
 
+/// The extra header, once the header was read.
+fn copy_extra(alloc: Global, reader: &LogReader) -> Result<Option<Bytes>, AllocError>
+    ensures { IfOk result (λ extra. extra ≡ reader.now.extra) }
+{
+    match reader.extra() {
+        Some(extra) => Ok(Some(Bytes::of(alloc, extra)?)),
+        None => Ok(None),
+    }
+}
+
 /// Reads a log that comes in these pieces, however it was cut.
 pub fn read_pieces(alloc: Global, pieces: &[Bytes]) -> Result<LogRead, AllocError>
     ensures meaning { IfOk result
-        (λ log. Means (flat_map (λ piece. piece) pieces.now) log.items.items log.fault) }
-    ensures only { IfOk result (λ log. (items : List Item) (fault : Option Fault)
-        → Means (flat_map (λ piece. piece) pieces.now) items fault
-        → (items ≡ log.items.items) × (fault ≡ log.fault)) }
+        (λ log. Means (flat_map (λ piece. piece) pieces.now) log.extra log.items.items log.fault) }
+    ensures only { IfOk result (λ log. (extra : Option (List ℕ)) (items : List Item)
+        (fault : Option Fault) → Means (flat_map (λ piece. piece) pieces.now) extra items fault
+        → (extra ≡ log.extra) × (items ≡ log.items.items) × (fault ≡ log.fault)) }
 {
     let mut reader = LogReader::new(alloc);
     let mut items = Vec::new(alloc);
@@ -83,7 +95,9 @@ pub fn read_pieces(alloc: Global, pieces: &[Bytes]) -> Result<LogRead, AllocErro
         reader.feed(piece.as_bytes())?;
         take_items(alloc, &mut reader, &mut items)?;
     }
+    let extra = copy_extra(alloc, &reader)?;
     Ok(LogRead {
+        extra,
         items,
         fault: reader.finish().err(),
     })

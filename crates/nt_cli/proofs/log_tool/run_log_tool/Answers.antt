@@ -1,46 +1,30 @@
-use Rattle.std.proofs.Common.{◌≡◌, Err, ap, sym}
-use Rattle.nt_cli.specs.Input.{ReadsAll, ReadsTooMany}
-use Rattle.nt_cli.specs.LogTools.{GivesLog}
-use Rattle.nt_cli.specs.declared.words.LogTool.TheVariants.{Check, Show}
-use Rattle.nt_cli.proofs.Replies.{log-ends, log-exact, log-read, many-exact}
+use Rattle.std.proofs.Common.{string_bytes, Err}
+use Rattle.std.proofs.lemmas.Result.{err_from_is_err_and}
+use Rattle.nt_cli.proofs.LogReplies.{ends-log, stops-log, exact-log}
 use Rattle.nt_cli.proofs.log_tool.run_log_tool.Goals as goal
 
-pub returns-in-Check-clause-ends : goal.returns-in-Check-clause-ends
-returns-in-Check-clause-ends g c =
-    let reads : ReadsAll (g.R.Source.left c.args.source.now) (g.R.Source.left c.read_all.new.source) c.deref.result.now
-    = rw c.deref.ensures.value (rw c.in-All.is at c.in_ok-input.ensures.input) in
-    rw c.in-Check.is (log-ends Check _ _ c.deref.result.now _ _ c.check_log.result reads c.check_log.ensures.gives
-    (λ is. c.check_log.ensures.memory))
+pub returns-in_err-last-clause-ends : goal.returns-in_err-last-clause-ends
+returns-in_err-last-clause-ends g c =
+    let law = c.reading_is_meaning.ensures in
+    let p = err_from_is_err_and c.from_residual.result c.from_residual.ensures.1 in
+    rw (p.1, p.2) (stops-log law.some law.begins c.args.tool _ _ c.in_err-last.field-0.0 _ _ c.in_err-last.ensures.stopped)
 
-pub returns-in-Check-clause-exact : goal.returns-in-Check-clause-exact
-returns-in-Check-clause-exact g c =
-    let reads : ReadsAll (g.R.Source.left c.args.source.now) (g.R.Source.left c.read_all.new.source) c.deref.result.now
-    = rw c.deref.ensures.value (rw c.in-All.is at c.in_ok-input.ensures.input) in
-    rw c.in-Check.is (log-exact Check _ _ c.deref.result.now _ _ c.check_log.result reads c.check_log.ensures.gives)
+pub returns-in_err-last-clause-exact : goal.returns-in_err-last-clause-exact
+returns-in_err-last-clause-exact g c =
+    let law = c.reading_is_meaning.ensures in
+    let p = err_from_is_err_and c.from_residual.result c.from_residual.ensures.1 in
+    rw p.1 (exact-log law.one c.args.tool _ _ _ _ (Err c.in_err-last.field-0.0)
+    (stops-log law.some law.begins c.args.tool _ _ c.in_err-last.field-0.0 _ _ c.in_err-last.ensures.stopped))
 
-pub returns-in-Check-clause-read : goal.returns-in-Check-clause-read
-returns-in-Check-clause-read g c = λ is. absurd (log-read Check c.deref.result.now _ _ c.check_log.result
-    c.check_log.ensures.gives is)
-
-pub returns-in-All-clause-ends : goal.returns-in-All-clause-ends
-returns-in-All-clause-ends g c =
-    let reads : ReadsAll (g.R.Source.left c.args.source.now) (g.R.Source.left c.read_all.new.source)
-    c.deref-in-Show.result.now = rw c.deref-in-Show.ensures.value (rw c.in-All.is at c.in_ok-input.ensures.input) in
-    rw c.in-Show.is (log-ends Show _ _ c.deref-in-Show.result.now _ _ c.show_log.result reads c.show_log.ensures.gives
-    (λ is. absurd (cc)))
-
-pub returns-in-All-clause-exact : goal.returns-in-All-clause-exact
-returns-in-All-clause-exact g c =
-    let reads : ReadsAll (g.R.Source.left c.args.source.now) (g.R.Source.left c.read_all.new.source)
-    c.deref-in-Show.result.now = rw c.deref-in-Show.ensures.value (rw c.in-All.is at c.in_ok-input.ensures.input) in
-    rw c.in-Show.is (log-exact Show _ _ c.deref-in-Show.result.now _ _ c.show_log.result reads c.show_log.ensures.gives)
-
-pub returns-in-All-clause-read : goal.returns-in-All-clause-read
-returns-in-All-clause-read g c = λ is. absurd (log-read Show c.deref-in-Show.result.now _ _ c.show_log.result
-    c.show_log.ensures.gives is)
+pub returns-clause-ends : goal.returns-clause-ends
+returns-clause-ends g c =
+    let last = c.in_ok-last.last in
+    ends-log c.args.tool _ _ last.end last.items last.bytes (string_bytes last.lines) _ _ _ c.end_log.result
+    c.in_ok-last.ensures.reads c.end_log.ensures.gives c.end_log.ensures.memory
 
 pub returns-clause-exact : goal.returns-clause-exact
 returns-clause-exact g c =
-    let many : ReadsTooMany (g.R.Source.left c.args.source.now) (g.R.Source.left c.read_all.new.source) =
-    rw c.in-TooMany.is at c.in_ok-input.ensures.input in
-    many-exact c.args.tool _ _ _ _ c.tell.result many c.tell.ensures.gives
+    let last = c.in_ok-last.last in
+    exact-log c.reading_is_meaning.ensures.one c.args.tool _ _ _ _ c.end_log.result
+    (ends-log c.args.tool _ _ last.end last.items last.bytes (string_bytes last.lines) _ _ _ c.end_log.result
+    c.in_ok-last.ensures.reads c.end_log.ensures.gives c.end_log.ensures.memory)

@@ -15,7 +15,8 @@ pub loop-self-preserved : goal.loop-self-preserved
 loop-self-preserved g c =
     let gathered : Gathers c.loop-self.self c.gather.new.self c.loop-self.line.items c.gather.new.line.items [] =
     rw c.if-branch.false at c.in_ok-gather.ensures.gathers in
-    let none : c.gather.new.self.bytes ≡ [] = c.in_ok-gather.ensures.all (ap (λ (b : Bool). Ok b) c.if-branch.false) in (
+    let none : c.gather.new.self.bytes ≡ [] =
+    c.in_ok-gather.ensures.all (ap (λ (b : Bool). Ok b) c.if-branch.false) in (
       reads-on _ _ _ _ _ _ _ (reads-part _ _ _ _ _ _ _ _ c.loop-self.invariant.0 gathered c.in_ok-gather.ensures.short)
           none c.in_ok-refill.ensures.taken c.in_ok-refill.ensures.room,
       search rules,

@@ -1,5 +1,6 @@
 use Rattle.std.proofs.Common.{◌≡◌, None}
 use Rattle.wpilog_read.proofs.Runs.{Steps-stands, Steps-ended}
+use Rattle.wpilog_read.proofs.Left.{Steps-left}
 use Rattle.wpilog_read.proofs.reader.LogReader.next.Goals as goal
 
 pub returns-in-None-clause-stands : goal.returns-in-None-clause-stands
@@ -19,3 +20,10 @@ returns-in-None-clause-ended c =
       none = c.step.ensures.none;
       fault = c.step.ensures.fault;
     })
+
+pub returns-in-None-clause-kept : goal.returns-in-None-clause-kept
+returns-in-None-clause-kept c = Steps-left c.args.self.now c.step.new.self c.step.result (record {
+  item = c.step.ensures.item;
+  none = c.step.ensures.none;
+  fault = c.step.ensures.fault;
+})

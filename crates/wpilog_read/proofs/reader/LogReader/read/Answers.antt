@@ -1,29 +1,41 @@
-use Rattle.std.proofs.Common.{◌≡◌, length, arith, rules}
-use Rattle.wpilog_read.proofs.Offsets.{record-after, record-next}
+use Rattle.std.proofs.Common.{◌≡◌, ◌+◌, length, drop, ap, ◌∙◌, arith}
+use Rattle.std.proofs.lemmas.List.{length-append}
+use Rattle.wpilog_read.specs.Run.{Reading}
+use Rattle.wpilog_read.proofs.Records.{record_at-after}
+use Rattle.wpilog_read.proofs.Offsets.{record-reads, record-shorter}
 use Rattle.wpilog_read.proofs.reader.LogReader.read.Goals as goal
 
-pub overflow_sub-self : goal.overflow_sub-self
-overflow_sub-self c =
+pub pass-requires : goal.pass-requires
+pass-requires c =
     let read = rw (c.rest.ensures, ← c.self.view_is) at c.in_ok-fields.ensures in
-    omega (arith, (record-after c.self.inside.bytes.items _ c.self.inside.taken _ (search rules) read).within)
+    let bytes = drop c.self.inside.taken c.self.inside.bytes.items in
+    let t = record_at-after c.self.inside.live.entries bytes _ read in
+    let len : length bytes ≡ length t.prefix + length c.in_ok-fields.after.now =
+    ap length t.parts ∙ length-append t.prefix c.in_ok-fields.after.now in
+    omega (arith, len)
 
 pub returns-clause-ok : goal.returns-clause-ok
 returns-clause-ok c =
     let read = rw (c.rest.ensures, ← c.self.view_is) at c.in_ok-fields.ensures in
-    rw (← c.self.view_is) (record-next _ _ _ c.self.inside.bytes.items _ c.self.inside.taken _ c.self.inside.fault _
-    c.in_ok-item.item (search rules) (search rules) read c.in_ok-item.ensures c.in_ok-update.ensures.ok)
-
-pub returns-clause-forward : goal.returns-clause-forward
-returns-clause-forward c =
-    let read = rw (c.rest.ensures, ← c.self.view_is) at c.in_ok-fields.ensures in
-    let len : c.len.result ≡ length c.self.inside.bytes.items = search rules in
-    rw (← c.self.view_is, len) (record-after c.self.inside.bytes.items _ c.self.inside.taken _ (search rules)
-    read).forward
+    let r : Reading = record {
+      extra = c.self.inside.extra;
+      live = c.self.inside.live.entries;
+      at = c.self.inside.at;
+      rest = drop c.self.inside.taken c.self.inside.bytes.items;
+      fault = c.self.inside.fault;
+    } in
+    rw (← c.self.view_is) (record-reads r c.pass.new.self c.note_item.new.live.entries _ c.in_ok-fields.after.now
+    c.in_ok-item.item read c.in_ok-item.ensures c.in_ok-note_item.ensures.ok c.pass.ensures)
 
 pub returns-clause-shorter : goal.returns-clause-shorter
 returns-clause-shorter c =
     let read = rw (c.rest.ensures, ← c.self.view_is) at c.in_ok-fields.ensures in
-    let len : c.len.result ≡ length c.self.inside.bytes.items = search rules in
-    let behind = record-after c.self.inside.bytes.items c.in_ok-fields.after.now c.self.inside.taken _ (search rules)
-    read in
-    rw (← c.self.view_is, len, behind.is) behind.shorter
+    let r : Reading = record {
+      extra = c.self.inside.extra;
+      live = c.self.inside.live.entries;
+      at = c.self.inside.at;
+      rest = drop c.self.inside.taken c.self.inside.bytes.items;
+      fault = c.self.inside.fault;
+    } in
+    rw (← c.self.view_is) (record-shorter r c.pass.new.self c.note_item.new.live.entries _ c.in_ok-fields.after.now
+    read c.pass.ensures)

@@ -1,0 +1,5 @@
+//! Tests of the writer of logs.
+#![tactic(auto)]
+
+#[cfg(test)]
+mod tests;
