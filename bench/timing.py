@@ -3,8 +3,8 @@
 Both programs read logs of one million `int64` values from bench/make_log: one with the shortest fields, one
 with the longest. Each log's printed text is compared once. Then, in each round, each program reads each log
 once with its output to /dev/null, so that what else the machine does falls on both alike. The table has the
-median wall time of each program from its start to its end, their ratio, and the most memory that each held,
-beside the size of the log.
+median wall time of each program from its start to its end, their ratio, and the most memory that each held in a
+further run, beside the size of the log.
 
 The program is the repository's, which the script `nt` builds first where needed, or PROGRAM. With --callgrind
 the script prints in place of the table where the program spends its instructions, on one log with a tenth of
@@ -54,23 +54,28 @@ def built_program(*words):
 
 
 class Run:
-    """One run of a program: its wall time in seconds, and its peak memory in bytes. SOURCE is a file for its
-    standard input.
-
-    The system counts from the moment at which this script starts the program, so no peak is below what the
-    script itself holds then, some 15 MB. Logs of a million values take about as much and more.
-    """
+    """One run of a program: its wall time in seconds. SOURCE is a file for its standard input."""
 
     def __init__(self, words, source=os.devnull):
         with open(source, "rb") as stdin:
             began = time.perf_counter()
-            child = subprocess.Popen(words, stdin=stdin, stdout=subprocess.DEVNULL)
-            _, status, usage = os.wait4(child.pid, 0)
+            status = subprocess.run(words, stdin=stdin, stdout=subprocess.DEVNULL).returncode
             self.seconds = time.perf_counter() - began
-        child.returncode = os.waitstatus_to_exitcode(status)
-        if child.returncode:
-            sys.exit(f"{' '.join(words)}: status {child.returncode}")
-        self.memory = usage.ru_maxrss * 1024
+        if status:
+            sys.exit(f"{' '.join(words)}: status {status}")
+
+
+def peak_memory(words, source=os.devnull):
+    """The most memory in bytes that a run of a program held, by GNU time.
+
+    The system counts for a program what the one that starts it held then, so that is to be a small one, and not
+    this script.
+    """
+    want("time")
+    with tempfile.NamedTemporaryFile("r") as told, open(source, "rb") as stdin:
+        measured = ["time", "-f", "%M", "-o", told.name, *words]
+        subprocess.run(measured, check=True, stdin=stdin, stdout=subprocess.DEVNULL)
+        return int(told.read()) * 1024
 
 
 def compare(folder, commands, fields, log):
@@ -104,7 +109,7 @@ def print_table(folder, command, given):
     print("fields    log MB   nt ms  plain ms  nt/plain  nt peak MB  plain peak MB")
     for log, path in logs.items():
         nt, plain = (statistics.median(run.seconds for run in runs[log, name]) for name in commands)
-        peaks = [max(run.memory for run in runs[log, name]) / MEGABYTE for name in commands]
+        peaks = [peak_memory([*words, path]) / MEGABYTE for words in commands.values()]
         print(
             f"{log:8} {os.path.getsize(path) / MEGABYTE:7.1f} {nt * 1000:7.1f} {plain * 1000:9.1f}"
             f" {nt / plain:9.1f} {peaks[0]:11.1f} {peaks[1]:14.1f}"

@@ -1,0 +1,16 @@
+pub mod Search
+pub mod Members
+pub mod Keeping
+pub mod Going
+pub mod Calling
+pub mod Back
+pub mod Runs
+pub mod Changing
+pub mod Takes
+pub mod Noting
+pub mod Saying
+pub mod Writing
+pub mod Answering
+pub mod Faults
+pub mod Reading
+pub mod Undoing
