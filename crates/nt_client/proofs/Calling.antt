@@ -1,6 +1,6 @@
 -- Where the last topic of a name is, by the ids that are noted under it.
 use Rattle.std.proofs.Common.{◌≡◌, ◌⊎◌, ◌≤◌, ◌<◌, ◌+◌, ℕ, zero, suc, ℤ, Bool, true, false, cond, ltb, ◌&&◌, ◌||◌, List, [], ◌∷◌, length, get_or, inl, inr, refl, sym, ◌∙◌, ap, subst, arith}
-use Rattle.std.specs.Prelude.{◌<ℤ◌, ◌≤ℤ◌}
+use Rattle.std.specs.Prelude.{remove, ◌<ℤ◌, ◌≤ℤ◌}
 use Rattle.std.specs.List.{list_any, Contains, AllByRecursion}
 use Rattle.std.specs.Ordering.{int_eq}
 use Rattle.std.specs.Str.{bytes_eq}
@@ -41,6 +41,14 @@ nowhere-found id name (x ∷ held) zero h at e other =
     rw (is-same x.id id at.0, sym (ap (is_called name) e) ∙ other) (nowhere-above id name held at.1)
 nowhere-found id name (x ∷ held) (suc i) h at e other =
     rw (is-other x.id id at.0) (nowhere-found id name held i h at.1 e other)
+
+-- nor is it where it was taken out
+pub nowhere-removed : (id : ℤ) (name : List ℕ) (held : List Held) (i : ℕ) → IsFoundAt id_of id held i
+    → IsCalledNowhere id name (remove held i)
+nowhere-removed id name [] i at = absurd at
+nowhere-removed id name (x ∷ held) zero at = nowhere-above id name held at.1
+nowhere-removed id name (x ∷ held) (suc i) at =
+    rw (is-other x.id id at.0) (nowhere-removed id name held i at.1)
 
 -- ---- the last of several
 

@@ -14,3 +14,4 @@ pub mod Answering
 pub mod Faults
 pub mod Reading
 pub mod Undoing
+pub mod Storing

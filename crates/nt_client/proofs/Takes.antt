@@ -6,23 +6,21 @@ use Rattle.nt_rules.specs.declared.held.Held.{Held}
 use Rattle.nt_rules.specs.telling.Told.{Message, after_message, told_from}
 use Rattle.nt_client.specs.declared.topics.Topics.{Topics}
 use Rattle.nt_client.specs.declared.undo.Undo.{Undo}
-use Rattle.nt_client.specs.Names.{IsNoted}
-use Rattle.nt_client.specs.Kept.{GoesOn, IsKept, LeadsBack, before}
+use Rattle.nt_client.specs.Sorted.{Rise}
+use Rattle.nt_client.specs.Kept.{GoesOn, IsKept, LeadsBack, before, id_of}
 use Rattle.nt_client.specs.Taking.{changes_by, changes_from, ignored_from, is_clock, is_known, unknown_from}
 use Rattle.nt_client.proofs.Back.{leads-twice}
-use Rattle.nt_client.proofs.Keeping.{kept-more}
 
 -- nothing was done yet
 pub goes-first : (t : Topics) (log : List Undo) → IsKept t.names t.held.items → GoesOn t log t log
 goes-first t log kept =
-    record { kept = kept; noted = λ name id h. h; leads = record { back = refl; way = λ can. can } }
+    record { kept = kept; leads = record { back = refl; way = λ can. can } }
 
 pub goes-twice : (t t-2 t-3 : Topics) (log log-2 log-3 : List Undo) → GoesOn t log t-2 log-2
     → GoesOn t-2 log-2 t-3 log-3
     → GoesOn t log t-3 log-3
 goes-twice t t-2 t-3 log log-2 log-3 one two = record {
   kept = two.kept;
-  noted = λ name id h. two.noted name id (one.noted name id h);
   leads = leads-twice t.held t-2.held t-3.held log log-2 log-3 one.leads two.leads;
 }
 
@@ -116,14 +114,11 @@ clock-step v rest clock clock-2 false is e =
     ap (λ l. l ++ filter is_clock rest) e
     ∙ ap (λ b. clock ++ cond b (v ∷ filter is_clock rest) (filter is_clock rest)) (sym is)
 
--- ---- a frame is refused: the topics are as they were, and more names may be noted
+-- ---- a frame is refused: the topics are as they were
 
 pub held-back : (t t-2 : Topics) (log : List Undo) → GoesOn t [] t-2 log → before log t-2.held.items ≡ t.held.items
 held-back t t-2 log on = on.leads.back
 
-pub kept-back : (t t-2 : Topics) (log : List Undo) (held : List Held) → IsKept t.names t.held.items
-    → GoesOn t [] t-2 log
-    → held ≡ t.held.items → IsKept t-2.names held
-kept-back t t-2 log held kept on same =
-    subst (λ (hs : List Held). IsKept t-2.names hs) (sym same)
-    (kept-more t.names t-2.names t.held.items on.noted on.kept.in_order kept)
+pub rising-back : (t t-2 : Topics) (log : List Undo) → IsKept t.names t.held.items → GoesOn t [] t-2 log
+    → Rise id_of (before log t-2.held.items)
+rising-back t t-2 log kept on = subst (λ (hs : List Held). Rise id_of hs) (sym on.leads.back) kept.rising

@@ -1,5 +1,5 @@
 -- The topics that a client holds as its code keeps them, and the way back from their changes.
-use Rattle.std.specs.Prelude.{◌≡◌, ◌<◌, ◌≤◌, ◌+◌, ◌-◌, ◌<ℤ◌, ◌&&◌, ℕ, zero, suc, ℤ, Bool, true, false, List, [], ◌∷◌, Option, reverse, insert, remove, vec_len, vec_capacity}
+use Rattle.std.specs.Prelude.{◌≡◌, ◌<◌, ◌≤◌, ◌+◌, ◌-◌, ◌<ℤ◌, ◌&&◌, ℕ, zero, suc, ℤ, Bool, true, false, List, [], ◌∷◌, Option, reverse, insert, remove, vec_len, vec_capacity, IsTrue}
 use Rattle.std.specs.List.{list_any, AllByRecursion}
 use Rattle.std.specs.Prelude.{Vec}
 use Rattle.nt_rules.specs.declared.held.Held.{Held}
@@ -7,7 +7,7 @@ use Rattle.nt_rules.specs.telling.Told.{is_called}
 use Rattle.nt_client.specs.declared.topics.Topics.{Topics}
 use Rattle.nt_client.specs.declared.undo.Undo.{Undo}
 use Rattle.nt_client.specs.declared.undo.Undo.TheVariants.{Added, Removed, Props, Value}
-use Rattle.nt_client.specs.Names.{AreInOrder, IsNoted, StaysNoted}
+use Rattle.nt_client.specs.Names.{AreInOrder, IsNoted}
 use Rattle.std.specs.Ordering.{int_eq}
 use Rattle.nt_client.specs.Sorted.{AreAbove, Rise}
 use Rattle.nt_client.specs.declared.names.Names.{Names}
@@ -24,6 +24,12 @@ pub record IsKept (names : Names) (held : List Held) : Type 0 where
   pub rising : Rise id_of held
   pub noted : AreNoted names held
   pub in_order : AreInOrder names
+
+-- topics by rising id, each of which is found by its name where it is said that they are noted
+pub record IsStored (t : Topics) : Type 0 where
+  pub rising : Rise id_of t.held.items
+  pub noted : IsTrue t.is_noted → AreNoted t.names t.held.items
+  pub in_order : AreInOrder t.names
 
 -- the topic at this index is the last of this name
 abbrev pub IsLastAt : List ℕ → List Held → ℕ → Type 0
@@ -75,10 +81,9 @@ pub record LeadsBack {Z : Type 0} (held : Vec Held Z) (log : List Undo) (held-2 
   pub back : before log-2 held-2.items ≡ before log held.items
   pub way : IsWayBack held log → IsWayBack held-2 log-2
 
--- the topics are kept and lead back, and no name is forgotten
+-- the topics are kept and lead back
 pub record GoesOn (t : Topics) (log : List Undo) (t-2 : Topics) (log-2 : List Undo) : Type 0 where
   pub kept : IsKept t-2.names t-2.held.items
-  pub noted : StaysNoted t.names t-2.names
   pub leads : LeadsBack t.held log t-2.held log-2
 
 -- ---- a topic of an id and a name

@@ -42,7 +42,7 @@ pub struct Client {
 
 impl Model for Client {
     ghost use Rattle.nt_client.specs.Calls.{State};
-    ghost use Rattle.nt_client.specs.Kept.{IsKept};
+    ghost use Rattle.nt_client.specs.Kept.{IsStored};
     ghost use Rattle.nt_topics.specs.contracts.properties.Props as props;
     ghost use Rattle.nt_topics.specs.contracts.properties.Update as update;
     ghost use Rattle.std.specs.Coded.{codes};
@@ -58,7 +58,7 @@ impl Model for Client {
       queue = c.queue;
     } };
 
-    ghost invariant = { λ c. IsKept c.topics.names c.topics.held.items };
+    ghost invariant = { λ c. IsStored c.topics };
 }
 
 impl Client {
@@ -239,6 +239,7 @@ impl Client {
             ≡ record self.old { held = told_from self.old.held messages }) }
         ensures err { OnErr result (self.new ≡ self.old) }
     {
+        self.topics.note_again(alloc)?;
         match frame {
             Frame::Text(text) => {
                 let read = read_server(alloc, text.as_str().as_bytes())?;

@@ -74,8 +74,9 @@ pub fn unannounce(
     match place_of(&topics.held, id) {
         Ok(at) => {
             let name = topics.held[at].name.copy(alloc)?;
-            changes.push(Change::Ended { id, name })?;
             remove(&mut topics.held, log, at)?;
+            topics.names.forget(name.as_str(), id);
+            changes.push(Change::Ended { id, name })?;
             Ok(true)
         }
         Err(_) => Ok(false),

@@ -3,12 +3,12 @@
 ghost use Rattle.std.specs.Prelude.{◌≡◌, ◌++◌, ◌-◌, ◌^◌, ◌+◌, ℕ, List, [], filter, map, IfOk, IfErr, OnOk, OnErr};
 ghost use Rattle.nt_frames.specs.declared.message.FrameFault.{FrameFault};
 ghost use Rattle.nt_rules.specs.telling.Told.{Text, Value, after_message, told_from};
-ghost use Rattle.nt_client.specs.Kept.{GoesOn, IsKept};
+ghost use Rattle.nt_client.specs.Kept.{GoesOn, IsKept, IsStored};
 ghost use Rattle.nt_client.specs.Taking.{changes_from, faults, changes_by, ignored_from, is_clock, is_known};
 
 use crate::step::{announce, set_properties, unannounce, value};
 use crate::topics::Topics;
-use crate::undo::{Undo, forget, undo_all};
+use crate::undo::{Undo, refuse};
 use nt_control::{ServerMsg, ServerRead};
 use nt_frames::{FrameRead, ValueMsg};
 use nt_rules::Changes;
@@ -132,7 +132,7 @@ pub fn take_texts(alloc: Global, topics: &mut Topics, read: ServerRead) -> Resul
     ensures held { OnOk result
         (topics.new.held.items ≡ told_from topics.old.held.items (map Text read.msgs.items)) }
     ensures err { OnErr result (topics.new.held.items ≡ topics.old.held.items) }
-    ensures kept { IsKept topics.new.names topics.new.held.items }
+    ensures stored { IsStored topics.new }
 {
     let mut log = Vec::new(alloc);
     let mut changes = Changes::empty(alloc);
@@ -144,16 +144,13 @@ pub fn take_texts(alloc: Global, topics: &mut Topics, read: ServerRead) -> Resul
         read.msgs,
         read.ignored,
     ) {
-        Ok(ignored) => {
-            forget(topics, log);
-            Ok(Taken {
-                changes,
-                clock: Vec::new(alloc),
-                ignored,
-            })
-        }
+        Ok(ignored) => Ok(Taken {
+            changes,
+            clock: Vec::new(alloc),
+            ignored,
+        }),
         Err(error) => {
-            undo_all(&mut topics.held, log);
+            refuse(topics, log);
             Err(error)
         }
     }
@@ -170,7 +167,7 @@ pub fn take_values(alloc: Global, topics: &mut Topics, read: FrameRead) -> Resul
     ensures held { OnOk result (topics.new.held.items ≡ told_from topics.old.held.items
         (map Value read.messages.items)) }
     ensures err { OnErr result (topics.new.held.items ≡ topics.old.held.items) }
-    ensures kept { IsKept topics.new.names topics.new.held.items }
+    ensures stored { IsStored topics.new }
 {
     let mut log = Vec::new(alloc);
     let mut changes = Changes::empty(alloc);
@@ -191,7 +188,7 @@ pub fn take_values(alloc: Global, topics: &mut Topics, read: FrameRead) -> Resul
             ignored,
         }),
         Err(error) => {
-            undo_all(&mut topics.held, log);
+            refuse(topics, log);
             Err(error)
         }
     }

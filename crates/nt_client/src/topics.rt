@@ -1,20 +1,23 @@
 //! The topics that a client holds.
 
-ghost use Rattle.std.specs.Prelude.{◌≡◌, ◌≤◌, ◌<◌, ℕ, [], MatchOption, MatchResult, false, vec_len, length};
+ghost use Rattle.std.specs.Prelude.{◌≡◌, ◌≤◌, ◌<◌, ℕ, [], MatchOption, MatchResult, OnOk, false, vec_len, length};
 ghost use Rattle.std.specs.List.{list_any};
 ghost use Rattle.nt_rules.specs.telling.Told.{is_called};
-ghost use Rattle.nt_client.specs.Kept.{IsCalledAt, IsCalledNowhere, IsKept, IsLastAt, id_of};
+ghost use Rattle.nt_client.specs.Kept.{AreNoted, IsCalledAt, IsCalledNowhere, IsKept, IsLastAt, IsStored, id_of};
+ghost use Rattle.nt_client.specs.Names.{AreInOrder};
 ghost use Rattle.nt_client.specs.Sorted.{IsFoundAt, IsMissedAt, Rise};
 
 use crate::names::Names;
 use nt_rules::Held;
-use std::alloc::Global;
+use std::alloc::{AllocError, Global};
 
 /// The topics that a client holds, by rising id, and the names under which it finds them.
 #[derive(Drop)]
 pub struct Topics {
     pub held: Vec<Held>,
     pub names: Names,
+    /// Whether each is noted under its name, as none is once a frame was refused.
+    pub is_noted: bool,
 }
 
 /// Where the topic of an id is, or else would stand.
@@ -26,7 +29,7 @@ pub fn place_of(held: &[Held], id: i64) -> Result<usize, usize>
 }
 
 /// Whether the topic of this id is held under this name, and where.
-pub fn place_called(held: &[Held], id: i64, name: &str) -> Option<usize>
+fn place_called(held: &[Held], id: i64, name: &str) -> Option<usize>
     requires { Rise id_of held.now }
     ensures { MatchOption result (IsCalledNowhere id name.now held.now) (IsCalledAt id name.now held.now) }
 {
@@ -42,16 +45,43 @@ pub fn place_called(held: &[Held], id: i64, name: &str) -> Option<usize>
     }
 }
 
+/// Notes these topics under their names.
+fn note_all(alloc: Global, names: &mut Names, held: &[Held]) -> Result<(), AllocError>
+    requires { AreInOrder names.old }
+    ensures in_order { AreInOrder names.new }
+    ensures noted { OnOk result (AreNoted names.new held.now) }
+{
+    for topic in held {
+        names.note(alloc, topic.name.as_str(), topic.id)?;
+    }
+    Ok(())
+}
+
 impl Topics {
     /// None.
     pub fn new(alloc: Global) -> Topics
         ensures held { result.held.items ≡ [] }
-        ensures kept { IsKept result.names [] }
+        ensures stored { IsStored result }
     {
         Topics {
             held: Vec::new(alloc),
             names: Names::new(alloc),
+            is_noted: true,
         }
+    }
+
+    /// Notes each topic under its name again, where none is.
+    pub fn note_again(&mut self, alloc: Global) -> Result<(), AllocError>
+        requires { IsStored self.old }
+        ensures held { self.new.held.items ≡ self.old.held.items }
+        ensures stored { IsStored self.new }
+        ensures kept { OnOk result (IsKept self.new.names self.new.held.items) }
+    {
+        if !self.is_noted {
+            note_all(alloc, &mut self.names, &self.held)?;
+            self.is_noted = true;
+        }
+        Ok(())
     }
 
     /// Where the last topic of this name is.
@@ -74,9 +104,10 @@ impl Topics {
     /// Forgets all.
     pub fn clear(&mut self)
         ensures held { self.new.held.items ≡ [] }
-        ensures kept { IsKept self.new.names [] }
+        ensures stored { IsStored self.new }
     {
         self.held.clear();
         self.names.clear();
+        self.is_noted = true;
     }
 }

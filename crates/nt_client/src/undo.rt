@@ -1,11 +1,12 @@
 //! Changes of the topics that a client holds, which can be undone without memory.
 
 ghost use Rattle.std.specs.Prelude.{◌≡◌, ◌<◌, ◌≤◌, ◌∷◌, [], List, OnOk, OnErr, insert, map, remove, vec_capacity, vec_len};
-ghost use Rattle.nt_client.specs.Kept.{CanUndo, IsKept, IsWayBack, LeadsBack, at_index, before, outline, undo};
+ghost use Rattle.nt_client.specs.Kept.{CanUndo, IsStored, IsWayBack, LeadsBack, at_index, before, id_of, outline, undo};
+ghost use Rattle.nt_client.specs.Sorted.{Rise};
 ghost use Rattle.nt_rules.specs.telling.Told.{with_properties};
 ghost use Rattle.nt_client.specs.declared.undo.Undo.{Undo};
 
-use crate::topics::{Topics, place_called};
+use crate::topics::Topics;
 use nt_rules::{Held, Timed};
 use nt_topics::Props;
 use std::alloc::AllocError;
@@ -139,7 +140,7 @@ fn take_back(held: &mut Vec<Held>, change: Undo)
 }
 
 /// Undoes all changes, the newest first.
-pub fn undo_all(held: &mut Vec<Held>, log: Vec<Undo>)
+fn undo_all(held: &mut Vec<Held>, log: Vec<Undo>)
     requires { IsWayBack held.old log.items }
     ensures { held.new.items ≡ before log.items held.old.items }
 {
@@ -149,17 +150,15 @@ pub fn undo_all(held: &mut Vec<Held>, log: Vec<Undo>)
     }
 }
 
-/// Forgets the names of the topics that were taken out and aren't held any more.
-pub fn forget(topics: &mut Topics, log: Vec<Undo>)
-    requires { IsKept topics.old.names topics.old.held.items }
-    ensures held { topics.new.held.items ≡ topics.old.held.items }
-    ensures kept { IsKept topics.new.names topics.new.held.items }
+/// Undoes what a refused frame changed. Names, which could be noted again only with memory, are
+/// forgotten, until the next frame comes.
+pub fn refuse(topics: &mut Topics, log: Vec<Undo>)
+    requires way { IsWayBack topics.old.held log.items }
+    requires rising { Rise id_of (before log.items topics.old.held.items) }
+    ensures held { topics.new.held.items ≡ before log.items topics.old.held.items }
+    ensures stored { IsStored topics.new }
 {
-    for change in &log {
-        if let Undo::Removed(_, gone) = change
-            && place_called(&topics.held, gone.id, gone.name.as_str()).is_none()
-        {
-            topics.names.forget(gone.name.as_str(), gone.id);
-        }
-    }
+    undo_all(&mut topics.held, log);
+    topics.names.clear();
+    topics.is_noted = false;
 }

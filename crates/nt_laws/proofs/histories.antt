@@ -9,6 +9,8 @@ pub mod Lawful
 pub mod Newcomer
 pub mod Order
 pub mod Origins
+pub mod OtherMetas
+pub mod Publishers
 pub mod ServerOrder
 pub mod StepLaw
 pub mod Within

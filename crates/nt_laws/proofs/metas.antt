@@ -8,8 +8,13 @@ pub mod MetaOrder
 pub mod MetaRows
 pub mod MetaSteps
 pub mod MetasOwed
+pub mod OrderedRows
+pub mod PlainRosters
 pub mod Prefixes
-pub mod Rosters
+pub mod Quiet
 pub mod RosterOrder
+pub mod Rosters
 pub mod RowOrder
 pub mod SameRows
+pub mod TouchedMetas
+pub mod UntouchedMetas

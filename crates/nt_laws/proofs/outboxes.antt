@@ -5,6 +5,7 @@ pub mod BatchOwed
 pub mod Draining
 pub mod Drains
 pub mod DrainsEnd
+pub mod LowIds
 pub mod MessageCalls
 pub mod OpenConnections
 pub mod OtherOutboxes
@@ -12,5 +13,7 @@ pub mod OutboxCalls
 pub mod OutboxKeys
 pub mod OutboxesAfterAct
 pub mod OutboxesAfterMessage
+pub mod QuietDrains
+pub mod Reaching
 pub mod RefreshedOutboxes
 pub mod UnchangedPresent

@@ -1,8 +1,10 @@
 -- Lives of topics and the puts to them.
+pub mod ChangedTopics
 pub mod Different
 pub mod FoundItems
 pub mod FoundLives
 pub mod ItemFacts
+pub mod LowTopics
 pub mod NamedAfter
 pub mod OneName
 pub mod OwnUids

@@ -17,3 +17,8 @@ pub record MemWrite : Type 0 where
   pub fails : List ℕ
   pub calls : ℕ
   pub faults : ℕ
+
+-- a stream in memory: its source and its sink
+pub record MemBoth : Type 0 where
+  pub reads : MemRead
+  pub writes : MemWrite

@@ -1,7 +1,7 @@
 //! What one connection is owed.
 
 ghost use Rattle.std.specs.Prelude.{◌≡◌, ◌≤◌, ◌↔◌, true, false, [], length, IfOk, OnOk, OnErr, None, option_copied, is_some, not, take};
-ghost use Rattle.nt_rules.specs.outbox.Calls.{nothing_owed, id_of, behind, at_place, with_call, noted, turned_to, rewanted_to, meta_rewanted, meta_changed, meta_ended, keys_of, weight_of, drained, drained_batch};
+ghost use Rattle.nt_rules.specs.outbox.Calls.{nothing_owed, id_of, behind, at_place, with_call, reached, noted, turned_to, rewanted_to, meta_rewanted, meta_changed, meta_ended, keys_of, weight_of, drained, drained_batch};
 ghost use Rattle.nt_rules.specs.outbox.Marks.{keys, handed_all, weight};
 ghost use Rattle.nt_rules.specs.outbox.Messages.{batch_of};
 ghost use Rattle.nt_rules.specs.outbox.Replies.{replied_to};
@@ -86,11 +86,11 @@ impl Outbox {
         AllocError
     }
 
-    /// Begins a call at a place, and says whether the connection may be owed something: it hadn't
-    /// fallen behind before. One that had keeps nothing.
-    fn reach(&mut self, place: u64) -> bool
+    /// A call at a place that tells nothing. It says whether the connection may be owed something: it
+    /// hadn't fallen behind before. One that had keeps nothing. It takes no memory.
+    pub fn reach(&mut self, place: u64) -> bool
         ensures open { result ≡ not (is_some (at_place place self.old).fell) }
-        ensures owed { self.new ≡ with_call place (λ marks. marks) self.old }
+        ensures owed { self.new ≡ reached place self.old }
     {
         if self.place < place {
             self.fell = self.behind();

@@ -1,5 +1,5 @@
 -- What counts and what doesn't.
-use Rattle.std.proofs.Common.{◌≡◌, ℕ, ℤ, Bool, true, false, cond, not, List, [], Option, option_map, Some, None, Result, Ok, Err, OnOk, map, refl, sym, ◌∙◌, ap}
+use Rattle.std.proofs.Common.{◌≡◌, ℕ, Bool, true, false, cond, not, List, [], Option, option_map, Some, None, Result, Ok, Err, OnOk, map, refl, sym, ◌∙◌, ap, subst}
 use Rattle.std.specs.List.{find}
 use Rattle.nt_topics.specs.Properties.{is_cached}
 use Rattle.nt_rules.specs.declared.topic.Cause.{Cause}
@@ -10,11 +10,10 @@ use Rattle.nt_rules.specs.declared.topic.Outcome.TheVariants.{Done, Ignored}
 use Rattle.nt_rules.specs.declared.meta.MetaNow.{MetaNow}
 use Rattle.nt_rules.specs.declared.taken.Taken.{Taken}
 use Rattle.nt_rules.specs.declared.act.StepOut.TheVariants as out
-use Rattle.nt_values.specs.declared.value.Value.{Value}
 use Rattle.nt_frames.specs.declared.message.ValueMsg.{ValueMsg}
 use Rattle.nt_control.specs.declared.message.ClientMsg.{ClientMsg}
 use Rattle.nt_control.specs.declared.message.ClientMsg.TheVariants.{Publish, Unpublish, SetProps, Subscribe, Unsubscribe}
-use Rattle.nt_rules.specs.topics.Topics.{TableState, if_counts, is_named, with_put}
+use Rattle.nt_rules.specs.topics.Topics.{TableState, if_counts, is_named}
 use Rattle.nt_rules.specs.topics.Changes.{outcome_of}
 use Rattle.nt_rules.specs.declared.act.Msg.{Msg}
 use Rattle.nt_rules.specs.declared.act.Msg.TheVariants.{Control, Put}
@@ -24,7 +23,12 @@ use Rattle.nt_rules.specs.history.Answer.{said_out}
 use Rattle.nt_rules.specs.history.State.{Open, State, serves, subs_at, cause_at, said_to, topics_said, next_said, changes_said, counted, if_structural, refreshed, message_noted, turn_noted, turned_of, turned_id, taken_after, if_taken, if_counted, open_metas}
 use Rattle.nt_server.specs.declared.inner.Inner.{Inner}
 use Rattle.nt_server.specs.Connections.{Connections}
-use Rattle.nt_server.specs.View.{IsKept, IsKeptAfter, cached_of, turned_one, turned_since, settled}
+use Rattle.nt_laws.specs.Ids.{HaveLowIds, AreLowChanges}
+use Rattle.nt_laws.proofs.topics.LowTopics.{low-counted, low-told-changes}
+use Rattle.nt_subs.specs.Subscriptions.{Subs}
+use Rattle.nt_server.specs.MetaWishes.{WereKept}
+use Rattle.nt_server.specs.View.{IsKept, IsKeptAfter, AreKeptAfter, changes_of, cached_of, turned_one, turned_since, settled}
+use Rattle.nt_server.proofs.MetaWishes.{may-be-wanted}
 use Rattle.nt_server.proofs.RosterRows.{metas_put}
 
 -- what an outcome answers, and the changes that were made
@@ -164,27 +168,67 @@ said-settled (Ok x) cause s new t before cached worker place conn m o served is 
 said-settled (Err error) cause s new t before cached worker place conn m o served is said kept known answer topics next
     h = tt
 
--- the meta topics are kept after a control message that is refused
-pub kept-control : (changes : List Change) (ts : List Topic) (cause : Option Cause) (m : ClientMsg) (o : Outcome)
-    (i : Inner) (t : TableState) → IsKept i → o ≡ outcome_of cause changes
-    → t.topics ≡ if_counts cause ts i.table.topics → IsKeptAfter (Control m) o (record i { table = t })
-kept-control changes ts None m (Done made) i t k e topics = tt
-kept-control changes ts None m (Ignored why) i t k e topics = absurd (cc)
-kept-control changes ts (Some cause) m (Done made) i t k e topics = tt
-kept-control changes ts (Some cause) m (Ignored why) i t k e topics =
-    record { metas_are = k.metas_are ∙ sym (ap (λ ts. open_metas i.connections.opens ts) topics) }
+-- ---- what is kept once the table took a message
 
--- and after a put
-pub kept-put : (cause : Option Cause) (v : ValueMsg) (o : Outcome) (i : Inner) (t : TableState) (conn : ℕ) (uid : ℤ)
-    (time : ℕ) (value : Value) → IsKept i
-    → t.topics ≡ if_counts cause (with_put i.table.topics conn uid time value) i.table.topics
-    → IsKeptAfter (Put v) o (record i { table = t })
-kept-put None v o i t conn uid time value k topics =
+-- the changes that it was answered are of topics
+low-answer : (subs : Subs) (conn : ℕ) (cause : Option Cause) (m : Msg) (o : Outcome) (i : Inner) → IsKept i
+    → said_cause i.table.topics i.table.next subs conn m ≡ cause
+    → o ≡ outcome_of cause (changes_said i.table.topics i.table.next conn m) → AreLowChanges (changes_of o)
+low-answer subs conn cause m o i k is answer =
+    subst (λ o. AreLowChanges (changes_of o)) (sym answer)
+    (by cause (low-told-changes cause subs i.table.topics i.table.next conn m k.ids is))
+  where
+    by : (cause : Option Cause)
+        → AreLowChanges (if_counted cause (changes_said i.table.topics i.table.next conn m))
+        → AreLowChanges (changes_of (outcome_of cause (changes_said i.table.topics i.table.next conn m)))
+    by None h = h
+    by (Some cause) h = tt
+
+-- a control message
+pub kept-control : (subs : Subs) (conn : ℕ) (cause : Option Cause) (m : ClientMsg) (o : Outcome) (i : Inner)
+    (t : TableState) → IsKept i → said_cause i.table.topics i.table.next subs conn (Control m) ≡ cause
+    → o ≡ outcome_of cause (changes_said i.table.topics i.table.next conn (Control m))
+    → t.topics ≡ if_counts cause (topics_said i.table.topics i.table.next conn (Control m)) i.table.topics
+    → t.next ≡ if_counts cause (next_said i.table.topics i.table.next (Control m)) i.table.next
+    → IsKeptAfter (Control m) o (record i { table = t })
+kept-control subs conn cause m o i t k is answer topics next =
     record {
-      metas_are =
-          k.metas_are
-          ∙ sym (metas_put conn uid time value i.table.topics i.connections.opens)
-          ∙ sym (ap (λ ts. open_metas i.connections.opens ts) topics);
+      ids =
+          rw (topics, next) (low-counted cause subs i.table.topics i.table.next conn (Control m) k.ids is);
+      changes = low-answer subs conn cause (Control m) o i k is answer;
+      metas = metas o cause answer topics;
     }
-kept-put (Some cause) v o i t conn uid time value k topics =
-    record { metas_are = k.metas_are ∙ sym (ap (λ ts. open_metas i.connections.opens ts) topics) }
+  where
+    metas : (o : Outcome) (cause : Option Cause)
+        → o ≡ outcome_of cause (changes_said i.table.topics i.table.next conn (Control m))
+        → t.topics ≡ if_counts cause (topics_said i.table.topics i.table.next conn (Control m)) i.table.topics
+        → AreKeptAfter (Control m) o (record i { table = t })
+    metas (Done made) cause e ts =
+        may-be-wanted i.metas (open_metas i.connections.opens i.table.topics) i.connections.opens k.metas
+    metas (Ignored why) None e ts = absurd (cc)
+    metas (Ignored why) (Some cause) e ts =
+        subst (λ ts. WereKept i.metas (open_metas i.connections.opens ts) i.connections.opens) (sym ts) k.metas
+
+-- and a put
+pub kept-put : (subs : Subs) (conn : ℕ) (cause : Option Cause) (v : ValueMsg) (o : Outcome) (i : Inner) (t : TableState)
+    → IsKept i → said_cause i.table.topics i.table.next subs conn (Put v) ≡ cause
+    → o ≡ outcome_of cause (changes_said i.table.topics i.table.next conn (Put v))
+    → t.topics ≡ if_counts cause (topics_said i.table.topics i.table.next conn (Put v)) i.table.topics
+    → t.next ≡ i.table.next → IsKeptAfter (Put v) o (record i { table = t })
+kept-put subs conn cause v o i t k is answer topics next =
+    record {
+      ids =
+          rw (topics, next) (subst (λ n. HaveLowIds (if_counts cause (topics_said i.table.topics i.table.next conn
+          (Put v)) i.table.topics) n) (counts-same cause i.table.next)
+          (low-counted cause subs i.table.topics i.table.next conn (Put v) k.ids is));
+      changes = low-answer subs conn cause (Put v) o i k is answer;
+      metas = subst (λ ts. WereKept i.metas (open_metas i.connections.opens ts) i.connections.opens) (sym topics) (metas cause);
+    }
+  where
+    metas : (cause : Option Cause)
+        → WereKept i.metas (open_metas i.connections.opens (if_counts cause (topics_said i.table.topics
+        i.table.next conn (Put v)) i.table.topics)) i.connections.opens
+    metas None =
+        subst (λ ms. WereKept i.metas ms i.connections.opens)
+        (sym (metas_put conn v.id v.time v.value i.table.topics i.connections.opens)) k.metas
+    metas (Some cause) = k.metas

@@ -1,5 +1,7 @@
+pub mod Closing
 pub mod Counts
 pub mod Lists
+pub mod MetaWishes
 pub mod Numbers
 pub mod Persistent
 pub mod Restoring

@@ -14,7 +14,7 @@ use Rattle.nt_rules.specs.declared.roster.PubRow.{PubRow}
 use Rattle.nt_rules.specs.declared.roster.LifeRow.{LifeRow}
 use Rattle.nt_rules.specs.declared.meta.MetaNow.{MetaNow}
 use Rattle.nt_rules.specs.meta.Meta.{metas}
-use Rattle.nt_rules.specs.outbox.Calls.{OutboxState}
+use Rattle.nt_rules.specs.outbox.Calls.{OutboxState, reached}
 use Rattle.nt_rules.specs.declared.act.Msg.{Msg}
 use Rattle.nt_rules.specs.declared.act.Msg.TheVariants.{Control, Put}
 use Rattle.nt_rules.specs.history.State.{Open}
@@ -78,7 +78,7 @@ pub renewed : (place : ℕ) (before : List MetaNow) (taken : List Taken) (ts : L
     → after ≡ open_metas opens ts
     → wanting ≡ rewanting place taken ts after conn old opens
     → told ≡ map (λ o. with_outbox
-    (noted_differences place (wanted o.subs) (differences before after) o.outbox) o) wanting
+    (noted_differences place (wanted o.subs) (differences before after) (reached place o.outbox)) o) wanting
     → IsRenewed place before taken ts conn old opens after told
 renewed place before taken ts conn old opens after wanting told a w t =
     record {
@@ -94,7 +94,7 @@ renewed place before taken ts conn old opens after wanting told a w t =
     others = rewanting place taken ts (open_metas opens ts) conn old opens
 
     box : List MetaNow → Open → OutboxState
-    box ms o = noted_differences place (wanted o.subs) (differences before ms) o.outbox
+    box ms o = noted_differences place (wanted o.subs) (differences before ms) (reached place o.outbox)
 
     tell : List MetaNow → Open → Open
     tell ms o = with_outbox (box ms o) o

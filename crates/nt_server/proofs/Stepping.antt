@@ -55,15 +55,6 @@ represents-over permits saved ts next k set trees is topics_are next_is =
         ∙ ap (λ n. core_with (topics (restored 1 saved)) n) next_is
         ∙ sym (core-begun start)
 
-pub represents-restored : {E : Type 0} (permits : ℕ) (saved : List Saved) (ts : List Topic) (next : ℕ)
-    (r : Result ServerState E) → IsSavedSet saved → HaveTrees saved
-    → IfOk r (λ k. k ≡ record { failed = false; state = record (begun permits []) { topics = ts; next = next } })
-    → ts ≡ topics (restored 1 saved) → next ≡ length saved + 1
-    → IfOk r (λ k. Represents k (record { permits = permits; saved = saved }) [])
-represents-restored permits saved ts next (Ok k) set trees is topics_are next_is =
-    represents-over permits saved ts next k set trees is topics_are next_is
-represents-restored permits saved ts next (Err error) set trees is topics_are next_is = tt
-
 -- a server fails where its arms do
 pub well-after : {X E : Type 0} (r : Result X E) (b : Bool) → b ≡ is_err r → OnOk r (b ≡ false)
 well-after (Ok s) b e = e

@@ -1,14 +1,15 @@
 -- The open connections and how many were opened.
-use Rattle.std.specs.Prelude.{◌≡◌, ◌<◌, ◌+◌, ℕ, zero, suc, true, false, List, [], ◌∷◌, ◌++◌, length, nat_le}
+use Rattle.std.specs.Prelude.{◌≡◌, ◌<◌, ◌+◌, ℕ, zero, suc, Bool, true, false, List, [], ◌∷◌, ◌++◌, length, map, nat_le, if◌then◌else◌}
 use Rattle.nt_subs.specs.Subscriptions.{Subs}
+use Rattle.nt_subs.specs.Wishes.{wanted}
 use Rattle.nt_rules.specs.Limits.{last_connection}
 use Rattle.nt_rules.specs.Sorted.{RisesFrom, AreBelow, IsFoundAt}
 use Rattle.nt_rules.specs.declared.meta.MetaNow.{MetaNow}
 use Rattle.nt_rules.specs.declared.taken.Taken.{Taken}
 use Rattle.nt_rules.specs.declared.topic.Topic.{Topic}
-use Rattle.nt_rules.specs.outbox.Calls.{nothing_owed}
+use Rattle.nt_rules.specs.outbox.Calls.{nothing_owed, reached}
 use Rattle.nt_rules.specs.history.Answer.{given_name}
-use Rattle.nt_rules.specs.history.State.{Open, serves, subs_at, given_names, open_metas, with_subs_of, rewanting, refreshed}
+use Rattle.nt_rules.specs.history.State.{Open, serves, subs_at, given_names, open_metas, with_subs_of, with_outbox, differences, noted_differences, rewanting, refreshed}
 
 pub record Connections : Type 0 where
   pub opened : ℕ
@@ -66,3 +67,19 @@ abbrev pub resubscribed : ℕ → List MetaNow → List Taken → List Topic →
 resubscribed place before taken ts conn subs opens =
     let others = with_subs_of conn subs opens in
     refreshed place before ts (rewanting place taken ts (open_metas others ts) conn (subs_at opens conn) others)
+
+-- ---- meta topics
+
+-- each outbox comes to a place
+abbrev pub reached_all : ℕ → List Open → List Open
+reached_all place opens = map (λ o. with_outbox (reached place o.outbox) o) opens
+
+-- and is then told what is different of the meta topics
+abbrev pub told_metas : ℕ → List MetaNow → List MetaNow → List Open → List Open
+told_metas place before after opens =
+    map (λ o. with_outbox (noted_differences place (wanted o.subs) (differences before after) (reached place o.outbox)) o)
+    opens
+
+-- the meta topics, where they are to be made
+abbrev pub metas_if : Bool → List Open → List Topic → List MetaNow
+metas_if makes opens ts = if makes then open_metas opens ts else []

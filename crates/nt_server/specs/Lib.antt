@@ -1,3 +1,4 @@
 pub mod Connections
+pub mod MetaWishes
 pub mod TakenPlaces
 pub mod View

@@ -1,10 +1,11 @@
 -- What the fields of a server say.
-use Rattle.std.specs.Prelude.{◌≡◌, ◌+◌, ℕ, Bool, true, false, List, [], Option, Some, None, option_map, length, map, if◌then◌else◌}
+use Rattle.std.specs.Prelude.{◌+◌, ℕ, Bool, true, false, List, [], Option, Some, None, option_map, length, map, if◌then◌else◌}
 use Rattle.std.specs.List.{find}
 use Rattle.nt_topics.specs.Properties.{is_cached}
 use Rattle.nt_control.specs.declared.message.ClientMsg.TheVariants.{SetProps}
 use Rattle.nt_rules.specs.declared.topic.Saved.{Saved}
 use Rattle.nt_rules.specs.declared.topic.Topic.{Topic}
+use Rattle.nt_rules.specs.declared.topic.Change.{Change}
 use Rattle.nt_rules.specs.declared.topic.Outcome.{Outcome}
 use Rattle.nt_rules.specs.declared.topic.Outcome.TheVariants.{Done, Ignored}
 use Rattle.nt_rules.specs.declared.act.Msg.{Msg}
@@ -13,7 +14,9 @@ use Rattle.nt_server.specs.declared.inner.Inner.{Inner}
 use Rattle.nt_rules.specs.topics.Topics.{is_named}
 use Rattle.nt_rules.specs.history.Lives.{topics, restored}
 use Rattle.nt_rules.specs.declared.meta.MetaNow.{MetaNow}
-use Rattle.nt_rules.specs.history.State.{State, open_metas, if_structural, message_noted, turn_noted, taken_after}
+use Rattle.nt_rules.specs.history.State.{State, if_structural, message_noted, turn_noted, taken_after}
+use Rattle.nt_laws.specs.Ids.{HaveLowIds, AreLowChanges}
+use Rattle.nt_server.specs.MetaWishes.{AreKept, MayBeWanted}
 
 -- the state that the fields hold
 abbrev pub state_of : Inner → State
@@ -47,15 +50,26 @@ begun permits saved =
       taken = [];
     }
 
--- the meta topics that are kept are those of the open connections and the living topics
+-- the ids of topics are low, and the meta topics that are kept are those of the open connections and the living topics
 pub record IsKept (i : Inner) : Type 0 where
-  pub metas_are : i.metas ≡ open_metas i.connections.opens i.table.topics
+  pub ids : HaveLowIds i.table.topics i.table.next
+  pub metas : AreKept i.metas i.connections.opens i.table.topics
 
 -- where a message counted, the meta topics that are kept may be those before it, but for a put
-abbrev pub IsKeptAfter : Msg → Outcome → Inner → Type 0
-IsKeptAfter (Control m) (Done changes) i = Unit {0}
-IsKeptAfter (Control m) (Ignored cause) i = IsKept i
-IsKeptAfter (Put v) outcome i = IsKept i
+abbrev pub AreKeptAfter : Msg → Outcome → Inner → Type 0
+AreKeptAfter (Control m) (Done changes) i = MayBeWanted i.metas i.connections.opens
+AreKeptAfter (Control m) (Ignored cause) i = AreKept i.metas i.connections.opens i.table.topics
+AreKeptAfter (Put v) outcome i = AreKept i.metas i.connections.opens i.table.topics
+
+abbrev pub changes_of : Outcome → List Change
+changes_of (Done changes) = changes
+changes_of (Ignored cause) = []
+
+-- what holds of what is kept once the table took a message
+pub record IsKeptAfter (m : Msg) (outcome : Outcome) (i : Inner) : Type 0 where
+  pub ids : HaveLowIds i.table.topics i.table.next
+  pub changes : AreLowChanges (changes_of outcome)
+  pub metas : AreKeptAfter m outcome i
 
 -- whether the topic whose properties a message sets is cached, where it is there
 abbrev pub cached_of : List Topic → Msg → Option Bool

@@ -5,11 +5,12 @@ ghost use Rattle.nt_rules.specs.history.Answer.{entry, drained_batch};
 ghost use Rattle.nt_rules.specs.history.State.{serves, drained_from, drained_answer, may_grant, acted_at, acted, reply, changes_by};
 ghost use Rattle.nt_rules.specs.history.Step.{IsPut, MayAct};
 ghost use Rattle.nt_rules.specs.history.Trees.{BringsTree};
+ghost use Rattle.nt_server.specs.MetaWishes.{known};
 ghost use Rattle.nt_server.specs.View.{state_of, IsKept};
 
 use crate::inner::Inner;
 use nt_control::ClientMsg;
-use nt_rules::{Act, Batch, Cause, Changes, Deed, Entry, Msg, Outcome, StepOut};
+use nt_rules::{Act, Batch, Cause, Changes, Deed, Entry, MetaNow, Metas, Msg, Outcome, StepOut};
 use nt_topics::{ClientName, Version};
 use std::alloc::{AllocError, Global};
 
@@ -31,6 +32,16 @@ fn handed(alloc: Global, out: &StepOut) -> Result<Batch, AllocError>
     match out {
         StepOut::Drained(batch) => batch.copy(alloc),
         _other => Ok(Batch::empty(alloc)),
+    }
+}
+
+/// The meta topics, as far as they are kept.
+fn known(metas: &Option<Metas>) -> &[MetaNow]
+    ensures { result.now ≡ known metas.now }
+{
+    match metas {
+        Some(metas) => metas.as_slice(),
+        None => &[],
     }
 }
 
@@ -172,7 +183,7 @@ impl Inner {
             moment,
             budget,
             &self.table,
-            self.metas.as_slice(),
+            known(&self.metas),
         )?;
         let batch = handed(alloc, &out)?;
         Ok(Stepped {

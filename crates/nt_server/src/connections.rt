@@ -1,18 +1,23 @@
 //! The open connections.
 
-ghost use Rattle.std.specs.Prelude.{◌≡◌, ◌≤◌, ◌<◌, false, [], filter, length, map, not, if◌then◌else◌, MatchResult, IfOk, OnOk};
+ghost use Rattle.std.specs.Prelude.{◌≡◌, ◌≤◌, ◌<◌, false, List, [], filter, length, map, not, if◌then◌else◌, MatchResult, IfOk, OnOk};
 ghost use Rattle.std.specs.Option.{MatchOption};
 ghost use Rattle.nt_subs.specs.Wishes.{wanted};
 ghost use Rattle.nt_rules.specs.Sorted.{RisesFrom, IsMissedAt};
 ghost use Rattle.nt_rules.specs.outbox.Calls.{nothing_owed, behind, drained_batch};
 ghost use Rattle.nt_rules.specs.history.Answer.{drained_out};
-ghost use Rattle.nt_rules.specs.history.State.{is_number, serves, subs_at, outbox_at, with_outbox, open_metas, differences, noted_differences, refreshed, changes_noted, message_noted, turn_noted, drained_from};
-ghost use Rattle.nt_server.specs.Connections.{number, number_at, IsOpenAt, IsServedAt, AreSpent, IsOpened, resubscribed};
+ghost use Rattle.nt_rules.specs.history.State.{is_number, serves, subs_at, outbox_at, with_outbox, open_metas, with_subs_of, rewanting, refreshed, changes_noted, message_noted, turn_noted, drained_from};
+ghost use Rattle.nt_laws.specs.Ids.{AreLowTopics};
+ghost use Rattle.nt_rules.specs.declared.meta.MetaNow.{MetaNow};
+ghost use Rattle.nt_rules.specs.declared.topic.Topic.{Topic};
+ghost use Rattle.nt_server.specs.Connections.{number, number_at, IsOpenAt, IsServedAt, AreSpent, IsOpened, resubscribed, reached_all, told_metas, metas_if};
+ghost use Rattle.nt_server.specs.MetaWishes.{WereKept, AreKept};
 
 use crate::differences::{differences, tell_differences};
 use crate::names::given_name;
 use crate::open::Open;
 use crate::roster::metas_of;
+use crate::special::gives_special;
 use crate::taken::TakenPlaces;
 use crate::telling::{tell_changes, tell_message};
 use crate::wishes::rewant;
@@ -197,8 +202,19 @@ impl OpenConnections {
         Ok(())
     }
 
-    /// Tells each connection what is different between these meta topics before and after. Where
-    /// that fails, none is left.
+    /// Brings each outbox to a place.
+    fn reach(&mut self, alloc: Global, place: u64)
+        ensures { self.new ≡ record self.old { opens = reached_all place self.old.opens } }
+    {
+        let mut list = mem::replace(&mut self.list, Vec::new(alloc));
+        for client in list.iter_mut() {
+            let _open = client.outbox.reach(place);
+        }
+        self.list = list;
+    }
+
+    /// Tells each connection what is different between these meta topics before and after, once it
+    /// came to the place. Where that fails, none is left.
     fn tell_metas(
         &mut self,
         alloc: Global,
@@ -207,8 +223,7 @@ impl OpenConnections {
         after: &[MetaNow],
     ) -> Result<(), AllocError>
         ensures { OnOk result (self.new ≡ record self.old {
-          opens = map (λ o. with_outbox (noted_differences place (wanted o.subs)
-              (differences before.now after.now) o.outbox) o) self.old.opens;
+          opens = told_metas place before.now after.now self.old.opens;
         }) }
     {
         let found = differences(alloc, before, after)?;
@@ -220,28 +235,37 @@ impl OpenConnections {
         Ok(())
     }
 
-    /// Makes the meta topics anew, and tells each connection what is different of them.
+    /// Makes the meta topics anew, and tells each connection what is different of them. Where none
+    /// are made, no connection wants one, and each only comes to the place.
     pub fn refresh(
         &mut self,
         alloc: Global,
         place: u64,
         table: &Table,
-        metas: &mut Metas,
+        metas: &mut Option<Metas>,
     ) -> Result<(), AllocError>
-        ensures connections { OnOk result (self.new ≡ record self.old {
-          opens = refreshed place metas.old table.now.topics self.old.opens;
-        }) }
-        ensures metas { OnOk result (metas.new ≡ open_metas self.new.opens table.now.topics) }
+        ensures connections { (os : List Open) (us : List Topic)
+            → WereKept metas.old (open_metas os us) self.old.opens
+            → OnOk result (self.new ≡ record self.old {
+              opens = refreshed place (open_metas os us) table.now.topics self.old.opens;
+            }) }
+        ensures metas { (before : List MetaNow) → WereKept metas.old before self.old.opens
+            → OnOk result (AreKept metas.new self.new.opens table.now.topics) }
     {
+        let Some(before) = metas.take() else {
+            self.reach(alloc, place);
+            return Ok(());
+        };
         let after = metas_of(alloc, &self.list, table)?;
-        self.tell_metas(alloc, place, metas.as_slice(), after.as_slice())?;
-        *metas = after;
+        self.tell_metas(alloc, place, before.as_slice(), after.as_slice())?;
+        *metas = Some(after);
         Ok(())
     }
 
-    /// Gives the connection that stands there other subscriptions in place of its own, and tells
-    /// what is wanted more or less by them.
-    pub fn resubscribe(
+    /// Gives the connection that stands there other subscriptions in place of its own, and tells it
+    /// what is wanted more or less by them. It answers the meta topics after that: none where they
+    /// are not to be made.
+    fn rewant(
         &mut self,
         alloc: Global,
         place: u64,
@@ -249,18 +273,24 @@ impl OpenConnections {
         subs: SubSet,
         table: &Table,
         taken: &TakenPlaces,
-        metas: &mut Metas,
-    ) -> Result<(), AllocError>
+        makes: bool,
+    ) -> Result<Metas, AllocError>
         requires { i < length self.old.opens }
-        ensures connections { OnOk result (self.new ≡ record self.old {
-          opens = resubscribed place metas.old taken.now table.now.topics
-              (number_at self.old.opens i) subs self.old.opens;
+        ensures metas { IfOk result (λ after. after ≡ metas_if makes
+            (with_subs_of (number_at self.old.opens i) subs self.old.opens) table.now.topics) }
+        ensures connections { IfOk result (λ after. self.new ≡ record self.old {
+          opens = rewanting place taken.now table.now.topics after (number_at self.old.opens i)
+              (subs_at self.old.opens (number_at self.old.opens i))
+              (with_subs_of (number_at self.old.opens i) subs self.old.opens);
         }) }
-        ensures metas { OnOk result (metas.new ≡ open_metas self.new.opens table.now.topics) }
     {
         let client = &mut self.list[i];
         let old = mem::replace(&mut client.subs, subs);
-        let after = metas_of(alloc, &self.list, table)?;
+        let after = if makes {
+            metas_of(alloc, &self.list, table)?
+        } else {
+            Metas::empty(alloc)
+        };
         let client = &mut self.list[i];
         rewant(
             alloc,
@@ -272,8 +302,43 @@ impl OpenConnections {
             &old,
             &client.subs,
         )?;
-        self.tell_metas(alloc, place, metas.as_slice(), after.as_slice())?;
-        *metas = after;
+        Ok(after)
+    }
+
+    /// Gives the connection that stands there other subscriptions in place of its own, and tells
+    /// what is wanted more or less by them. Meta topics are made from the first on that gives a
+    /// special name.
+    pub fn resubscribe(
+        &mut self,
+        alloc: Global,
+        place: u64,
+        i: usize,
+        subs: SubSet,
+        table: &Table,
+        taken: &TakenPlaces,
+        metas: &mut Option<Metas>,
+    ) -> Result<(), AllocError>
+        requires within { i < length self.old.opens }
+        requires kept { AreKept metas.old self.old.opens table.now.topics }
+        requires ids { AreLowTopics table.now.topics }
+        ensures connections { OnOk result (self.new ≡ record self.old {
+          opens = resubscribed place (open_metas self.old.opens table.now.topics) taken.now
+              table.now.topics (number_at self.old.opens i) subs self.old.opens;
+        }) }
+        ensures metas { OnOk result (AreKept metas.new self.new.opens table.now.topics) }
+    {
+        let before = match metas.take() {
+            None if !gives_special(&subs) => {
+                let _none = self.rewant(alloc, place, i, subs, table, taken, false)?;
+                self.reach(alloc, place);
+                return Ok(());
+            }
+            None => metas_of(alloc, &self.list, table)?,
+            Some(before) => before,
+        };
+        let after = self.rewant(alloc, place, i, subs, table, taken, true)?;
+        self.tell_metas(alloc, place, before.as_slice(), after.as_slice())?;
+        *metas = Some(after);
         Ok(())
     }
 

@@ -3,6 +3,7 @@
 ghost use Rattle.std.specs.Prelude.{◌≡◌, ◌++◌, ◌≤◌, List, drop, length, map, IfOk, OnOk};
 ghost use Rattle.nt_subs.specs.Wishes.{wanted};
 ghost use Rattle.nt_rules.specs.declared.meta.MetaNow.{MetaNow};
+ghost use Rattle.nt_rules.specs.outbox.Calls.{reached};
 ghost use Rattle.nt_rules.specs.history.State.{difference_of, differences_from, differences, noted_difference, noted_differences};
 
 use nt_outbox::Outbox;
@@ -95,7 +96,7 @@ fn tell_difference(
     }
 }
 
-/// Tells an outbox of differences.
+/// Tells an outbox of differences, after it came to the place.
 pub fn tell_differences(
     alloc: Global,
     outbox: &mut Outbox,
@@ -104,8 +105,9 @@ pub fn tell_differences(
     found: &[Difference],
 ) -> Result<(), AllocError>
     ensures { OnOk result
-        (outbox.new ≡ noted_differences place (wanted subs.now) found.now outbox.old) }
+        (outbox.new ≡ noted_differences place (wanted subs.now) found.now (reached place outbox.old)) }
 {
+    let _open = outbox.reach(place);
     for difference in found {
         tell_difference(alloc, outbox, subs, place, difference)?;
     }

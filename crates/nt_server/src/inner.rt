@@ -7,7 +7,8 @@ use nt_table::Table;
 
 /// What a server keeps: the permits and how many were granted, whether it is shut, the last moment
 /// in microseconds and how many entries there are, the topics, the open connections, the places of
-/// held values, and the meta topics as they are.
+/// held values, and the meta topics as they are. Until a connection gives a special name no meta
+/// topics are made.
 #[derive(Drop)]
 pub struct Inner {
     pub permits: u32,
@@ -18,5 +19,5 @@ pub struct Inner {
     pub table: Table,
     pub connections: OpenConnections,
     pub taken: TakenPlaces,
-    pub metas: Metas,
+    pub metas: Option<Metas>,
 }

@@ -12,6 +12,7 @@ mod restore;
 mod roster;
 mod saved;
 mod server;
+mod special;
 mod taken;
 mod telling;
 mod wishes;

@@ -1,12 +1,14 @@
 //! What a connection says.
 
-ghost use Rattle.std.specs.Prelude.{◌≡◌, ◌<◌, [], length, IfOk, OnOk};
+ghost use Rattle.std.specs.Prelude.{◌≡◌, ◌<◌, List, [], length, IfOk, OnOk};
 ghost use Rattle.nt_rules.specs.topics.Changes.{outcome_of};
 ghost use Rattle.nt_subs.specs.Subscriptions.{with_sub, without_sub};
 ghost use Rattle.nt_rules.specs.history.Now.{subscribe_cause, unsubscribe_cause};
-ghost use Rattle.nt_rules.specs.history.State.{subs_at, cause_at, changes_said, if_taken, subscribed, said_to};
+ghost use Rattle.nt_rules.specs.declared.topic.Topic.{Topic};
+ghost use Rattle.nt_rules.specs.history.State.{Open, open_metas, subs_at, cause_at, changes_said, if_taken, subscribed, said_to};
 ghost use Rattle.nt_rules.specs.history.Step.{IsPut};
 ghost use Rattle.nt_server.specs.Connections.{number_at};
+ghost use Rattle.nt_server.specs.MetaWishes.{WereKept};
 ghost use Rattle.nt_server.specs.View.{state_of, IsKept, IsKeptAfter, cached_of, turned_since, settled};
 
 use crate::inner::Inner;
@@ -59,8 +61,10 @@ impl Inner {
     ) -> Result<Outcome, AllocError>
         requires { IsKeptAfter msg.now outcome self.old }
         ensures outcome { IfOk result (λ o. o ≡ outcome) }
-        ensures state { OnOk result (state_of self.new
-            ≡ settled self.old.metas was_cached place conn msg.now outcome (state_of self.old)) }
+        ensures state { (os : List Open) (us : List Topic)
+            → WereKept self.old.metas (open_metas os us) self.old.connections.opens
+            → OnOk result (state_of self.new
+            ≡ settled (open_metas os us) was_cached place conn msg.now outcome (state_of self.old)) }
         ensures kept { OnOk result (IsKept self.new) }
     {
         let Outcome::Done(changes) = &outcome else {

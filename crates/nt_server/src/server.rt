@@ -10,13 +10,13 @@ ghost use Rattle.nt_rules.specs.history.Now.{now_of};
 ghost use Rattle.nt_rules.specs.history.Owed.{owed, queued, behind};
 ghost use Rattle.nt_rules.specs.history.Saved.{IsSavedSet, AreSaved};
 ghost use Rattle.nt_rules.specs.history.Step.{MayAct, Represents, Steps, IsEntryOf};
+ghost use Rattle.nt_laws.specs.Ids.{HaveLowIds};
 ghost use Rattle.nt_server.specs.View.{begun};
 
 use crate::acts::{Stepped, see_tree};
 use crate::connections::OpenConnections;
 use crate::inner::Inner;
 use crate::restore::restored;
-use crate::roster::metas_of;
 use crate::saved::saved_of;
 use crate::taken::TakenPlaces;
 use nt_rules::{Act, Saved};
@@ -55,7 +55,7 @@ impl Server {
         ensures { IfOk result
             (λ s. Represents s (record { permits = permits; saved = [] }) []) }
     {
-        Server::over(alloc, permits, Table::new(alloc))
+        Ok(Server::over(alloc, permits, Table::new(alloc)))
     }
 
     /// A server without connections, over the topics that were saved: their ids are from 1, in the
@@ -65,18 +65,18 @@ impl Server {
         ensures { IfOk result
             (λ s. Represents s (record { permits = permits; saved = saved.items }) []) }
     {
-        Server::over(alloc, permits, restored(alloc, saved)?)
+        Ok(Server::over(alloc, permits, restored(alloc, saved)?))
     }
 
     /// A server without connections over these topics.
-    fn over(alloc: Global, permits: u32, table: Table) -> Result<Server, AllocError>
-        ensures { IfOk result (λ s. s ≡ record {
+    fn over(alloc: Global, permits: u32, table: Table) -> Server
+        requires { HaveLowIds table.topics table.next }
+        ensures { result ≡ record {
           failed = false;
           state = record (begun permits []) { topics = table.topics; next = table.next };
-        }) }
+        } }
     {
-        let metas = metas_of(alloc, &[], &table)?;
-        Ok(Server {
+        Server {
             failed: false,
             inner: Inner {
                 permits,
@@ -87,9 +87,9 @@ impl Server {
                 table,
                 connections: OpenConnections::new(alloc),
                 taken: TakenPlaces::new(alloc),
-                metas,
+                metas: None,
             },
-        })
+        }
     }
 
     /// One act of a worker at this moment, in microseconds: what it is answered, its entry, and the

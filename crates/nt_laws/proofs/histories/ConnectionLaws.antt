@@ -158,7 +158,7 @@ plain-drained conn budget opens = map-plain (drained_from conn budget) (λ o. by
 
 -- ---- closing
 
-abbrev others : ℕ → List Plain → List Plain
+abbrev pub others : ℕ → List Plain → List Plain
 others conn ps = filter (λ p. not (is_numbered conn p)) ps
 
 plain-others : (conn : ℕ) (opens : List Open) → map plain (filter (λ o. not (is_number conn o)) opens)
@@ -174,7 +174,7 @@ plain-others conn (o ∷ opens) = by (plain-others conn opens) (is_number conn o
     by more true = more
     by more false = ap (λ ps. plain o ∷ ps) more
 
-closed-others : (place conn : ℕ) (cs : List Connection) → plain_opens (closed place conn cs)
+pub closed-others : (place conn : ℕ) (cs : List Connection) → plain_opens (closed place conn cs)
     ≡ others conn (plain_opens cs)
 closed-others place conn [] = refl
 closed-others place conn (c ∷ cs) = by (is_open c) refl (closed-others place conn cs)

@@ -233,7 +233,7 @@ account-new start (e ∷ past) conn legal new =
 -- ---- publishings
 
 -- all publishings are of other connections
-abbrev OthersPublish : ℕ → Life → Type 0
+abbrev pub OthersPublish : ℕ → Life → Type 0
 OthersPublish conn l = AllByRecursion (λ p. (p.conn == conn) ≡ false) l.publishings
 
 others-at : (conn : ℕ) (test : Life → Bool) (f : Life → Life)
@@ -349,7 +349,7 @@ others-restored : (conn id : ℕ) (saved : List Saved) → AllByRecursion (Other
 others-restored conn id [] = tt
 others-restored conn id (s ∷ saved) = (tt, others-restored conn (id + 1) saved)
 
-others-publish : (start : Start) (past : List Entry) (conn : ℕ) → Legal start past → IsNew start past conn
+pub others-publish : (start : Start) (past : List Entry) (conn : ℕ) → Legal start past → IsNew start past conn
     → AllByRecursion (OthersPublish conn) (now_of start past).lives
 others-publish start [] conn legal new = others-restored conn 1 start.saved
 others-publish start (e ∷ past) conn legal new =

@@ -288,7 +288,7 @@ lt-more a b c ab bc = grind (arith, ints)
 abbrev IsBelow : PubRow → PubRow → Type 0
 IsBelow a b = a.uid <ℤ b.uid
 
-each-inserted : (P : PubRow → Type 0) (r : PubRow) (xs : List PubRow) → P r → AllByRecursion P xs
+pub each-inserted : (P : PubRow → Type 0) (r : PubRow) (xs : List PubRow) → P r → AllByRecursion P xs
     → AllByRecursion P (insert_after pub_below r xs)
 each-inserted P r [] here h = (here, tt)
 each-inserted P r (x ∷ xs) here h = by (pub_below r x) (each-inserted P r xs here h.1)

@@ -28,7 +28,7 @@ use Rattle.nt_rules.specs.history.Step.{Plain, plain, plain_of, Core, core, core
 -- ---- the roster that is kept
 
 -- the row of an open connection
-abbrev row_of : List Topic → Plain → ConnRow
+abbrev pub row_of : List Topic → Plain → ConnRow
 row_of ts p = record {
   conn = p.number;
   name = p.name;
@@ -42,7 +42,7 @@ rows-kept : (ts : List Topic) (opens : List Open) → map (open_row ts) opens
 rows-kept ts [] = refl
 rows-kept ts (o ∷ opens) = ap (λ rows. open_row ts o ∷ rows) (rows-kept ts opens)
 
-rows-said : (ts : List Topic) (conns : List Connection) → map (conn_row ts) conns
+pub rows-said : (ts : List Topic) (conns : List Connection) → map (conn_row ts) conns
     ≡ map (row_of ts) (map plain_of conns)
 rows-said ts [] = refl
 rows-said ts (c ∷ conns) = ap (λ rows. conn_row ts c ∷ rows) (rows-said ts conns)

@@ -1,5 +1,5 @@
 -- All outboxes after a message.
-use Rattle.std.proofs.Common.{◌≡◌, ◌+◌, ◌==◌, ℕ, Bool, true, false, cond, List, [], ◌∷◌, ◌++◌, None, map, length}
+use Rattle.std.proofs.Common.{◌≡◌, ◌≤◌, ◌+◌, ◌==◌, ℕ, Bool, true, false, cond, List, [], ◌∷◌, ◌++◌, None, map, length}
 use Rattle.std.proofs.Common.{append-nil, refl, sym, ◌∙◌, ap, subst, arith}
 use Rattle.std.specs.List.{AllByRecursion, filter_map}
 use Rattle.std.proofs.lemmas.Bool.Decides.{nat_tests}
@@ -84,6 +84,9 @@ module _ (start : Start) (past : List Entry) (s : State) (worker now sender : �
   place_is : s.place + 1 ≡ place
   place_is = ap (λ p. p + 1) (place-kept s n kept ∙ place-is start past)
 
+  within : place ≤ length (e ∷ past)
+  within = omega arith
+
   metas_are : open_metas s.opens s.topics ≡ metas_now n
   metas_are = metas-kept-by s.opens s.topics n kept.opens_are (topics-are s n kept)
 
@@ -154,7 +157,7 @@ module _ (start : Start) (past : List Entry) (s : State) (worker now sender : �
           (subst (λ after. AllOwe start (e ∷ past)
           (refreshed place (metas_now n) after (map (noted place (topics n.lives) after changes) s.opens)))
           (topics-said-are place n.lives (subs_of n.connections sender) sender m cause_is)
-          (refreshed-owe start past (e ∷ past) place (metas_now n) (topics lives)
+          (refreshed-owe start past (e ∷ past) place within (metas_now n) (topics lives)
           (noted place (topics n.lives) (topics lives) changes) ops
           (said-still place (topics n.lives) (topics lives) sender m changes)
           (differences (metas_now n) (metas_now n')) s.opens differ
@@ -331,7 +334,7 @@ module _ (start : Start) (past : List Entry) (s : State) (worker now sender : �
         (subst (λ subs. AllOwe start (e ∷ past)
         (subscribe place taken (topics n.lives) (metas_now n) (metas_now n') subs)) (sym
         (subs-kept s n kept sender))
-        (refreshed-owe start past (e ∷ past) place (metas_now n)
+        (refreshed-owe start past (e ∷ past) place within (metas_now n)
         (topics n.lives) sub_told sub_ops sub_does ds opens differ
         (IsOpenIn n'.connections) sub_one opens_open opens_owe))))))
       where

@@ -1,5 +1,5 @@
 -- What all outboxes hold after a connection opens or closes, and after acts that tell them nothing.
-use Rattle.std.proofs.Common.{◌≡◌, ◌+◌, ◌++◌, ℕ, Bool, true, false, cond, leb, List, [], ◌∷◌, map, filter, max, not}
+use Rattle.std.proofs.Common.{◌≡◌, ◌≤◌, ◌+◌, ◌++◌, ℕ, Bool, true, false, cond, leb, List, [], ◌∷◌, map, filter, max, not}
 use Rattle.std.proofs.Common.{length, refl, sym, ◌∙◌, ap, subst, arith}
 use Rattle.std.specs.List.{AllByRecursion}
 use Rattle.nt_topics.specs.declared.version.Version.{Version}
@@ -96,6 +96,9 @@ module _ (start : Start) (past : List Entry) (s : State) (worker now : ℕ) (fit
   place_is : s.place + 1 ≡ length past + 1
   place_is = ap (λ p. p + 1) (place-kept s n kept ∙ place-is start past)
 
+  within : (e : Entry) → s.place + 1 ≤ length (e ∷ past)
+  within e = let same = place_is in omega arith
+
   -- what is kept after the act is what the history with its entry says
   kept-next : (a : Act) → IsNoDrain a
       → IsKeptOf (acted s worker now a) (now_of start (answered start past worker now a ∷ past))
@@ -165,7 +168,7 @@ module _ (start : Start) (past : List Entry) (s : State) (worker now : ℕ) (fit
   open-owe e lawful hands still lives opens same owes =
       subst (λ os. AllOwe start (e ∷ past)
       (refreshed (s.place + 1) (open_metas s.opens s.topics) s.topics os)) (map-itself opens)
-      (refreshed-owe start past (e ∷ past) (s.place + 1) (open_metas s.opens s.topics) s.topics (λ o. o)
+      (refreshed-owe start past (e ∷ past) (s.place + 1) (within e) (open_metas s.opens s.topics) s.topics (λ o. o)
       (λ o. []) (λ o. refl)
       (differences (metas_now n) (metas_now n')) opens differ (IsReady n n') each
       (all-ready n e opens still same later.connections_numbered) owes)
@@ -259,8 +262,8 @@ module _ (start : Start) (past : List Entry) (s : State) (worker now : ℕ) (fit
       (now_of start (closing conn ∷ past))
       → AllOwe start (closing conn ∷ past) (closed_by s (s.place + 1) conn).opens
   close-owe conn lawful there later_kept =
-      refreshed-owe start past (closing conn ∷ past) (s.place + 1) (open_metas s.opens s.topics)
-      (dropped s.topics conn) (told_ended conn)
+      refreshed-owe start past (closing conn ∷ past) (s.place + 1) (within (closing conn))
+      (open_metas s.opens s.topics) (dropped s.topics conn) (told_ended conn)
       (ended_ops conn (s.place + 1)) does
       (differences (metas_now n) (metas_now n')) (others conn) differ
       (IsReady n n') each (all-ready n (closing conn) (others conn) refl same_others

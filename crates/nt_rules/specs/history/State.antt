@@ -21,7 +21,7 @@ use Rattle.nt_rules.specs.declared.roster.ConnRow.{ConnRow}
 use Rattle.nt_rules.specs.declared.meta.MetaNow.{MetaNow}
 use Rattle.nt_rules.specs.meta.Meta.{metas}
 use Rattle.nt_rules.specs.outbox.Marks.{is_empty}
-use Rattle.nt_rules.specs.outbox.Calls.{OutboxState, id_of, nothing_owed, behind, noted, turned_to, replied_publish_to, replied_setting_to, rewanted_to, meta_rewanted, meta_changed, meta_ended, drained, drained_batch}
+use Rattle.nt_rules.specs.outbox.Calls.{OutboxState, id_of, nothing_owed, behind, reached, noted, turned_to, replied_publish_to, replied_setting_to, rewanted_to, meta_rewanted, meta_changed, meta_ended, drained, drained_batch}
 use Rattle.nt_rules.specs.declared.act.Act.{Act}
 use Rattle.nt_rules.specs.declared.act.Act.TheVariants as act
 use Rattle.nt_rules.specs.declared.act.Msg.{Msg}
@@ -121,11 +121,13 @@ abbrev pub noted_differences : ℕ → (List ℕ → Wanted) → List Difference
 noted_differences place wish [] b = b
 noted_differences place wish (d ∷ ds) b = noted_differences place wish ds (noted_difference place wish d b)
 
--- the open connections are told what is different of the meta topics since they were these
+-- the open connections are told what is different of the meta topics since they were these, each outbox after it came to
+-- the place: so one that wants no meta topic is the same whatever is different
 abbrev pub refreshed : ℕ → List MetaNow → List Topic → List Open → List Open
 refreshed place before ts opens =
     map
-    (λ o. with_outbox (noted_differences place (wanted o.subs) (differences before (open_metas opens ts)) o.outbox) o)
+    (λ o. with_outbox
+    (noted_differences place (wanted o.subs) (differences before (open_metas opens ts)) (reached place o.outbox)) o)
     opens
 
 -- ---- changes

@@ -60,6 +60,10 @@ abbrev pub with_call : ℕ → (List Mark → List Mark) → OutboxState → Out
 with_call place f b =
     let m : OutboxState = at_place place b in record m { marks = if is_some m.fell then [] else f m.marks }
 
+-- a call at a place that tells nothing
+abbrev pub reached : ℕ → OutboxState → OutboxState
+reached place b = with_call place (λ marks. marks) b
+
 -- the id of a topic. A number that is none, which no table gives, names no topic
 abbrev pub id_of : ℤ → Option ℕ
 id_of (pos n) = if nat_lt n (2 ^ 32) then Some n else None

@@ -47,9 +47,9 @@ returns-in_err-push-in-Ok-clause-goes_on c =
           subst (λ (t : Topics). GoesOn c.args.topics.now c.args.log.now.items t c.if-cached.log.items)
           (sym w.topics-is)
           (subst (λ (l : List Undo). GoesOn c.args.topics.now c.args.log.now.items
-          (record { held = w.set_value.new.held; names = c.args.topics.now.names }) l)
+          (record c.args.topics.now { held = w.set_value.new.held }) l)
           (sym (ap (λ (v : Vec Undo Global). v.items) w.log-is))
-          (goes-outline c.args.topics.now (record { held = w.set_value.new.held; names = c.args.topics.now.names })
+          (goes-outline c.args.topics.now (record c.args.topics.now { held = w.set_value.new.held })
           c.args.log.now.items w.set_value.new.log.items c.requires (λ n k h. h) c.requires.in_order
           (ap (map outline) items ∙ at-outline
           (λ (h : Held). record h { value = Some (record { time = c.args.msg.time; value = c.args.msg.value }) })
@@ -109,9 +109,9 @@ returns-in_ok-push-in-Ok-clause-goes_on c =
           subst (λ (t : Topics). GoesOn c.args.topics.now c.args.log.now.items t c.if-cached.log.items)
           (sym w.topics-is)
           (subst (λ (l : List Undo). GoesOn c.args.topics.now c.args.log.now.items
-          (record { held = w.set_value.new.held; names = c.args.topics.now.names }) l)
+          (record c.args.topics.now { held = w.set_value.new.held }) l)
           (sym (ap (λ (v : Vec Undo Global). v.items) w.log-is))
-          (goes-outline c.args.topics.now (record { held = w.set_value.new.held; names = c.args.topics.now.names })
+          (goes-outline c.args.topics.now (record c.args.topics.now { held = w.set_value.new.held })
           c.args.log.now.items w.set_value.new.log.items c.requires (λ n k h. h) c.requires.in_order
           (ap (map outline) items ∙ at-outline
           (λ (h : Held). record h { value = Some (record { time = c.args.msg.time; value = c.args.msg.value }) })

@@ -1,87 +1,91 @@
-use Rattle.std.proofs.Common.{◌≡◌, ◌<◌, ◌∙◌, List, length, set, sym, ap, subst}
-use Rattle.nt_subs.specs.Subscriptions.{Subs}
+use Rattle.std.proofs.Common.{◌≡◌, ◌∙◌, List, [], Option, None, false, sym, ap, subst, rules}
 use Rattle.nt_rules.specs.declared.meta.MetaNow.{MetaNow}
-use Rattle.nt_rules.specs.outbox.Calls.{OutboxState}
-use Rattle.nt_rules.specs.history.State.{Open, with_outbox, open_metas}
-use Rattle.nt_server.specs.Connections.{Connections, number_at}
-use Rattle.nt_server.specs.contracts.open.Open.{the_view}
-use Rattle.nt_server.proofs.Numbers.{found_there, numbered-write, numbered-twice}
-use Rattle.nt_server.proofs.Resubscribing.{retold, told_metas, IsResubscribed, resubscribing}
+use Rattle.nt_rules.specs.history.State.{Open, subs_at, with_subs_of, rewanting, open_metas}
+use Rattle.nt_server.specs.Connections.{Connections, number_at, reached_all, told_metas, resubscribed}
+use Rattle.nt_server.specs.MetaWishes.{give_special, WereKept, AreKept}
+use Rattle.nt_server.proofs.MetaWishes.{WantNone, none-resubscribed, none-after}
+use Rattle.nt_server.proofs.RosterRows.{IsRenewed, renewed}
+use Rattle.nt_server.proofs.connections.OpenConnections.resubscribe.Goals.{in-None-2+in_ok-before-in-None-2, in-Some}
 use Rattle.nt_server.proofs.connections.OpenConnections.resubscribe.Goals as goal
 
-pub invariant_of-self : goal.invariant_of-self
-invariant_of-self c =
-    let within : c.args.i < length c.self.inside.list.items =
-    subst (λ (k : Connections). c.args.i < length k.opens) (sym c.self.view_is) c.requires in
-    numbered-write c.self.inside.opened c.args.i c.self.inside.list.items c.index_mut-client.result.now _
-    c.self.invariant within c.index_mut-client.ensures.value (ap (λ (o : Open). o.conn) c.client.view_is)
+pub returns-in-None-clause-connections : goal.returns-in-None-clause-connections
+returns-in-None-clause-connections c =
+    let place = c.args.place in
+    let ts = c.args.table.now.topics in
+    let taken = c.args.taken.now in
+    let opens : List Open = c.args.self.now.opens in
+    let conn = number_at opens c.args.i in
+    let none : c.args.metas.now ≡ None = search rules in
+    let wants : WantNone opens =
+    subst (λ (m : Option (List MetaNow)). WereKept m (open_metas opens ts) opens) none c.requires.kept in
+    let plain : give_special c.args.subs ≡ false = sym c.if-not-gives_special.ensures in
+    c.reach.ensures
+    ∙ ap (λ (k : Connections). record k { opens = reached_all place k.opens }) c.in_ok-_none-in-None.ensures.connections
+    ∙ ap (λ (ms : List MetaNow). record c.args.self.now {
+      opens = reached_all place (rewanting place taken ts ms conn (subs_at opens conn) (with_subs_of conn c.args.subs opens));
+    }) c.in_ok-_none-in-None.ensures.metas
+    ∙ ap (λ (os : List Open). record c.args.self.now { opens = os })
+    (none-resubscribed place taken ts conn c.args.subs opens c.requires.ids plain wants)
 
-pub invariant_of-self-in_err-rewant : goal.invariant_of-self-in_err-rewant
-invariant_of-self-in_err-rewant c =
-    let within : c.args.i < length c.self.inside.list.items =
-    subst (λ (k : Connections). c.args.i < length k.opens) (sym c.self.view_is) c.requires in
-    numbered-twice c.self.inside.opened c.args.i c.self.inside.list.items c.index_mut-client.result.now _
-    c.index_mut-client-2.result.now _ c.self.invariant within c.index_mut-client.ensures.value
-    (ap (λ (o : Open). o.conn) c.client.view_is) c.index_mut-client-2.ensures.value
-    (ap (λ (o : Open). o.conn) c.client-2.view_is)
-
-pub invariant_of-self-2 : goal.invariant_of-self-2
-invariant_of-self-2 c =
-    let within : c.args.i < length c.self.inside.list.items =
-    subst (λ (k : Connections). c.args.i < length k.opens) (sym c.self.view_is) c.requires in
-    numbered-twice c.self.inside.opened c.args.i c.self.inside.list.items c.index_mut-client.result.now _
-    c.index_mut-client-2.result.now _ c.self.invariant within c.index_mut-client.ensures.value
-    (ap (λ (o : Open). o.conn) c.client.view_is) c.index_mut-client-2.ensures.value
-    (ap (λ (o : Open). o.conn) c.client-2.view_is)
+pub returns-in-None-clause-metas : goal.returns-in-None-clause-metas
+returns-in-None-clause-metas c =
+    let place = c.args.place in
+    let ts = c.args.table.now.topics in
+    let taken = c.args.taken.now in
+    let opens : List Open = c.args.self.now.opens in
+    let conn = number_at opens c.args.i in
+    let none : c.args.metas.now ≡ None = search rules in
+    let gone : c.take.new.self ≡ None = search rules in
+    let wants : WantNone opens =
+    subst (λ (m : Option (List MetaNow)). WereKept m (open_metas opens ts) opens) none c.requires.kept in
+    let plain : give_special c.args.subs ≡ false = sym c.if-not-gives_special.ensures in
+    let new_is : c.reach.new.self ≡ record c.args.self.now {
+      opens = reached_all place (rewanting place taken ts [] conn (subs_at opens conn) (with_subs_of conn c.args.subs opens));
+    } =
+    c.reach.ensures
+    ∙ ap (λ (k : Connections). record k { opens = reached_all place k.opens }) c.in_ok-_none-in-None.ensures.connections
+    ∙ ap (λ (ms : List MetaNow). record c.args.self.now {
+      opens = reached_all place (rewanting place taken ts ms conn (subs_at opens conn) (with_subs_of conn c.args.subs opens));
+    }) c.in_ok-_none-in-None.ensures.metas in
+    subst (λ (m : Option (List MetaNow)). AreKept m c.reach.new.self.opens ts) (sym gone)
+    (subst (λ (k : Connections). WantNone k.opens) (sym new_is)
+    (none-after place taken ts conn c.args.subs opens c.requires.ids plain wants))
 
 pub returns : goal.returns
 returns c =
     let place = c.args.place in
     let ts = c.args.table.now.topics in
     let taken = c.args.taken.now in
-    let before : List MetaNow = c.args.metas.now in
+    let opens : List Open = c.args.self.now.opens in
+    let conn = number_at opens c.args.i in
+    let others : List Open = with_subs_of conn c.args.subs opens in
+    let before : List MetaNow = c.match-take.before in
     let after : List MetaNow = c.in_ok-after.after in
-    let os : List Open = c.self.inside.list.items in
-    let i = c.args.i in
-    let o : Open = c.index_mut-client.result.now in
-    let q : Open = c.index_mut-client-2.result.now in
-    let old : Subs = c.replace-old.result in
-    let ms : List MetaNow = c.as_slice.result.now in
-    let p : Open = record (the_view c.client.inside) { subs = c.replace-old.new.dest } in
-    let r : Open = with_outbox c.rewant.new.outbox (the_view c.client-2.inside) in
     let told : List Open = c.tell_metas.new.self.opens in
-    let within : i < length os =
-    subst (λ (k : Connections). i < length k.opens) (sym c.self.view_is) c.requires in
-    let given : p ≡ record o { subs = c.args.subs } =
-    ap (λ (x : Open). record x { subs = c.replace-old.new.dest }) c.client.view_is
-    ∙ ap (λ (s : Subs). record o { subs = s }) c.replace-old.ensures.after in
-    let had : old ≡ o.subs = c.replace-old.ensures.value ∙ ap (λ (x : Open). x.subs) c.client.view_is in
-    let after_is : after ≡ open_metas (set os i p) ts =
-    c.in_ok-after.ensures ∙ ap (λ (xs : List Open). open_metas xs ts) c.deref.ensures.value in
-    let retold_is : r ≡ retold place taken ts ms old q =
-    ap (λ (b : OutboxState). with_outbox b (the_view c.client-2.inside)) c.in_ok-rewant.ensures
-    ∙ ap (retold place taken ts ms old) c.client-2.view_is in
-    let told_is : told ≡ told_metas place before after (set (set os i p) i r) =
+    let before_is : before ≡ open_metas opens ts =
+    elim c.match-take.branch [
+      | in-None-2+in_ok-before-in-None-2 w ↦ w.before-is ∙ w.in_ok-before-in-None-2.ensures
+          ∙ ap (λ (os : List Open). open_metas os ts) w.deref.ensures.value
+          ∙ ap (λ (k : Connections). open_metas k.opens ts) w.self.view_is
+      | in-Some w ↦ w.before-is
+          ∙ subst (λ (m : Option (List MetaNow)). WereKept m (open_metas opens ts) opens)
+          (sym c.take.ensures.value ∙ w.in-Some.is) c.requires.kept
+    ] in
+    let told_is : told ≡ told_metas place before after c.rewant-2.new.self.opens =
     ap (λ (k : Connections). k.opens) c.in_ok-tell_metas.ensures
-    ∙ ap (λ (ms : List MetaNow). told_metas place ms c.as_slice-3.result.now (set (set os i p) i r))
-    c.as_slice-2.ensures
-    ∙ ap (λ (ms : List MetaNow). told_metas place before ms (set (set os i p) i r)) c.as_slice-3.ensures in
-    let made : IsResubscribed place (number_at os i) before after taken ts c.args.subs os told =
-    resubscribing place (number_at os i) i before after ms taken ts c.args.subs old os o p q r told (record {
-      found = found_there 0 i os c.self.invariant.rising within;
-      at = c.index_mut-client.ensures.value;
-      given = given;
-      had = had;
-      after_is = after_is;
-      handed = c.as_slice.ensures;
-      there = c.index_mut-client-2.ensures.value;
-      retold_is = retold_is;
-      told_is = told_is;
-    }) in
+    ∙ ap (λ (ms : List MetaNow). told_metas place ms c.as_slice-2.result.now c.rewant-2.new.self.opens) c.as_slice.ensures
+    ∙ ap (λ (ms : List MetaNow). told_metas place before ms c.rewant-2.new.self.opens) c.as_slice-2.ensures in
+    let made : IsRenewed place before taken ts conn (subs_at opens conn) others after told =
+    renewed place before taken ts conn (subs_at opens conn) others after c.rewant-2.new.self.opens told
+    c.in_ok-after.ensures.metas (ap (λ (k : Connections). k.opens) c.in_ok-after.ensures.connections) told_is in
     record {
       connections =
-          rw (← c.self.view_is)
-          (ap (λ (k : Connections). record k { opens = told }) c.in_ok-tell_metas.ensures
-          ∙ ap (λ (os : List Open). record { opened = c.self.inside.opened; opens = os }) made.opens_are);
+          c.in_ok-tell_metas.ensures
+          ∙ ap (λ (k : Connections). record k {
+            opens = told_metas place c.as_slice.result.now c.as_slice-2.result.now c.rewant-2.new.self.opens;
+          }) c.in_ok-after.ensures.connections
+          ∙ ap (λ (os : List Open). record c.args.self.now { opens = os })
+          (sym (ap (λ (k : Connections). k.opens) c.in_ok-tell_metas.ensures) ∙ made.opens_are
+          ∙ ap (λ (ms : List MetaNow). resubscribed place ms taken ts conn c.args.subs opens) before_is);
       metas = made.metas_are;
     }

@@ -1,0 +1,5 @@
+pub mod Ends
+pub mod Fields
+pub mod Heads
+pub mod Streams
+pub mod Written

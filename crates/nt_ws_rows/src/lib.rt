@@ -1,0 +1,5 @@
+//! Worked rows of the heads of WebSocket connections.
+#![tactic(auto)]
+
+#[cfg(test)]
+mod tests;
