@@ -1,9 +1,9 @@
 //! The yardstick of bench/client: takes the frames of a server that tells of topics and their values, in a plain loop
 //! over a `HashMap` of Rust's own library, and prints what `client_bench` prints of it.
 //!
-//! A frame is read with the tests that `nt_frames` makes of messages whose values are doubles in 64 bits, by
-//! every width of the numbers. As there, a frame's messages are read into a list before any is taken, and what is told
-//! has a name and a value of its own.
+//! A frame is read with the tests that `nt_frames` makes, by every width of the numbers and with values of every type
+//! that is no list. As there, a frame's messages are read into a list before any is taken, what is told has a name and
+//! a value of its own, and what a value replaces is kept until the whole frame is taken.
 use std::collections::HashMap;
 use std::env::args;
 
@@ -16,12 +16,15 @@ const STEP: u64 = 7_919;
 /// The id of the messages by which the clock answers.
 const CLOCK: i64 = -1;
 
-/// No value here has a text, but each is asked.
 #[allow(dead_code)]
 #[derive(Clone)]
 enum Value {
+    Bool(bool),
     Double(u64),
+    Int(i64),
+    Float(u32),
     Text(String),
+    Bytes(Vec<u8>),
 }
 
 struct Message {
@@ -102,17 +105,57 @@ fn take_whole(left: &mut &[u8]) -> Option<i128> {
     Some(i128::from((number << unused) as i64 >> unused))
 }
 
+/// So many bytes, the number of which stands before them in as many bytes as `first` says of `narrowest`.
+fn take_counted<'a>(left: &mut &'a [u8], first: u8, narrowest: u8) -> Option<&'a [u8]> {
+    let width = 1usize << first.checked_sub(narrowest).filter(|step| *step < 3)?;
+    let count = take_bytes(left, width)?.iter().fold(0usize, |n, byte| n << 8 | usize::from(*byte));
+    take_bytes(left, count)
+}
+
+fn take_text(left: &mut &[u8]) -> Option<String> {
+    let first = take_bytes(left, 1)?[0];
+    let text = match first {
+        0xa0..0xc0 => take_bytes(left, usize::from(first & 0x1f))?,
+        _ => take_counted(left, first, 0xd9)?,
+    };
+    String::from_utf8(text.to_vec()).ok()
+}
+
+fn take_bits(left: &mut &[u8]) -> Option<Result<u64, u32>> {
+    match take_bytes(left, 1)?[0] {
+        0xca => Some(Err(u32::from_be_bytes(take_bytes(left, 4)?.try_into().ok()?))),
+        0xcb => Some(Ok(u64::from_be_bytes(take_bytes(left, 8)?.try_into().ok()?))),
+        _ => None,
+    }
+}
+
+fn take_value(left: &mut &[u8], number: u8) -> Option<Value> {
+    match number {
+        0 => match take_bytes(left, 1)?[0] {
+            0xc2 => Some(Value::Bool(false)),
+            0xc3 => Some(Value::Bool(true)),
+            _ => None,
+        },
+        1 => Some(Value::Double(take_bits(left)?.unwrap_or_else(|bits| f64::from(f32::from_bits(bits)).to_bits()))),
+        2 => Some(Value::Int(i64::try_from(take_whole(left)?).ok()?)),
+        3 => Some(Value::Float(take_bits(left)?.err()?)),
+        4 => Some(Value::Text(take_text(left)?)),
+        5 => {
+            let first = take_bytes(left, 1)?[0];
+            Some(Value::Bytes(take_counted(left, first, 0xc4)?.to_vec()))
+        }
+        _ => None,
+    }
+}
+
 fn take_message(left: &mut &[u8]) -> Option<Message> {
     if take_bytes(left, 1)?[0] != 0x94 {
         return None;
     }
     let id = i64::try_from(take_whole(left)?).ok()?;
     let time = i64::try_from(take_whole(left)?).ok().filter(|time| *time >= 0)? as u64;
-    if take_whole(left)? != 1 || take_bytes(left, 1)?[0] != 0xcb {
-        return None;
-    }
-    let bits = u64::from_be_bytes(take_bytes(left, 8)?.try_into().ok()?);
-    Some(Message { id, time, value: Value::Double(bits) })
+    let number = u8::try_from(take_whole(left)?).ok()?;
+    Some(Message { id, time, value: take_value(left, number)? })
 }
 
 /// The messages of a frame up to the first that isn't there, and whether there is one.
@@ -133,6 +176,7 @@ fn read_frame(mut left: &[u8]) -> (Vec<Message>, bool) {
 fn take(held: &mut HashMap<i64, Topic>, frame: &[u8]) -> Taken {
     let (messages, is_faulty) = read_frame(frame);
     let mut taken = Taken { changes: Vec::new(), clock: Vec::new(), ignored: u32::from(is_faulty) };
+    let mut replaced = Vec::new();
     for message in messages {
         let Message { id, time, value } = message;
         if id == CLOCK {
@@ -143,10 +187,11 @@ fn take(held: &mut HashMap<i64, Topic>, frame: &[u8]) -> Taken {
             continue;
         };
         if topic.is_cached {
-            topic.value = Some((time, value.clone()));
+            replaced.push((id, topic.value.replace((time, value.clone()))));
         }
         taken.changes.push(Changed { id, name: topic.name.clone(), time, value });
     }
+    std::hint::black_box(&replaced);
     taken
 }
 

@@ -26,11 +26,11 @@ use Rattle.nt_rules.specs.history.Metas.{all_lives}
 use Rattle.nt_rules.specs.history.Owed.{account, owed, keys_owed, behind as fell_behind, messages}
 use Rattle.nt_rules.specs.history.Answer.{answer, entry, moment_of, drained_out}
 use Rattle.nt_rules.specs.history.Step.{ServerState, Represents, Steps}
-use Rattle.nt_cli.specs.declared.status.ToolFault.{ToolFault}
+use Rattle.nt_tools.specs.declared.status.ToolFault.{ToolFault}
 use Rattle.nt_cli.specs.Desk.{Decoding, is_empty, count_owed, start, worker, conn, budget, with_act, with_drain, opened, line_messages, answer_to, answers_to, with_message, with_messages, batch, batch_lines, lines_of, drained, after_drains, turn_text, last_text, after_turn}
 use Rattle.nt_cli.specs.DeskRun.{IsConnected}
-use Rattle.nt_cli.specs.Printing.{Prints}
-use Rattle.nt_cli.proofs.Printing.{prints-after, prints-stopped}
+use Rattle.nt_tools.specs.Printing.{Prints}
+use Rattle.nt_tools.proofs.Printing.{prints-after, prints-stopped}
 
 -- a step's entry is the one that the history goes on with
 entry-act : (past : List Entry) (now : ℕ) (a : Act) (o : StepOut) (e : Entry) (server : ServerState)

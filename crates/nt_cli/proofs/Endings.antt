@@ -6,18 +6,18 @@ use Rattle.std.specs.Io.KnownBytes.{Consumes, IsAtEnd, Appends}
 use Rattle.std.proofs.KnownBytes.{Consumes-nil, Consumes-trans, Appends-nil, Appends-trans}
 use Rattle.nt_rules.specs.declared.act.Entry.{Entry}
 use Rattle.nt_rules.specs.history.Step.{ServerState}
-use Rattle.nt_cli.specs.declared.status.Status.{Status}
-use Rattle.nt_cli.specs.declared.status.ToolFault.{ToolFault}
-use Rattle.nt_cli.specs.declared.status.ToolFault.TheVariants.{Memory, Read, Write}
-use Rattle.nt_cli.specs.Input.{most_bytes, piece_bytes, Took, MayFollow}
-use Rattle.nt_cli.specs.LineReading.{most_line, IsUnbroken, Ahead, Gives, Reads, IsTooLong}
-use Rattle.nt_cli.specs.Reply.{Reply, IsGiven, IsPrefix, IsCutShort, with_text}
+use Rattle.nt_tools.specs.declared.status.Status.{Status}
+use Rattle.nt_tools.specs.declared.status.ToolFault.{ToolFault}
+use Rattle.nt_tools.specs.declared.status.ToolFault.TheVariants.{Memory, Read, Write}
+use Rattle.nt_tools.specs.Input.{most_bytes, piece_bytes, Took, MayFollow}
+use Rattle.nt_tools.specs.LineReading.{most_line, IsUnbroken, Ahead, Gives, Reads, IsTooLong}
+use Rattle.nt_tools.specs.Reply.{Reply, IsGiven, IsPrefix, IsCutShort, with_text}
 use Rattle.nt_cli.specs.Desk.{Decoding, IsDecoding, opened, turn_text, last_text, after_turn, reply_within, desk_reply, RepliesAtDesk, RepliesToTaken, DeskBegun, DeskBroken, EndsDesk}
-use Rattle.nt_cli.specs.Printing.{number_of, printing, Prints, Follows}
+use Rattle.nt_tools.specs.Printing.{number_of, printing, Prints, Follows}
 use Rattle.nt_cli.specs.DeskRun.{IsConnected, Progress, left_reply, beginning, Settles, Stops, Breaks, Ends, GoesOn}
-use Rattle.nt_cli.proofs.LineFeeds.{unbroken-append}
+use Rattle.nt_tools.proofs.LineFeeds.{unbroken-append}
 use Rattle.nt_cli.proofs.LineReplies.{long_reply, many_reply, end_reply, line-reply, long-reply, many-reply, end-reply}
-use Rattle.nt_cli.proofs.Printing.{prefix-none, prefix-cut, prefix-more, cut-more, prefix-after, cut-after, given-after}
+use Rattle.nt_tools.proofs.Printing.{prefix-none, prefix-cut, prefix-more, cut-more, prefix-after, cut-after, given-after}
 
 -- ---- what was taken
 

@@ -4,10 +4,10 @@ use Rattle.std.proofs.lemmas.List.{drop_more}
 use Rattle.std.specs.Io.KnownBytes.{Appends}
 use Rattle.std.proofs.KnownBytes.{Appends-trans}
 use Rattle.nt_link.specs.declared.frame.Frame.{Frame}
-use Rattle.nt_cli.specs.declared.status.ToolFault.{ToolFault}
+use Rattle.nt_tools.specs.declared.status.ToolFault.{ToolFault}
 use Rattle.nt_cli.specs.Desk.{frame_line, lines_of}
-use Rattle.nt_cli.specs.Printing.{Prints}
-use Rattle.nt_cli.proofs.Printing.{prints-after, prints-stopped}
+use Rattle.nt_tools.specs.Printing.{Prints}
+use Rattle.nt_tools.proofs.Printing.{prints-after, prints-stopped}
 
 -- the lines of the frames before this place were printed
 pub record PrintsTo (frames : List Frame) (at : ℕ) (before now : Option (List ℕ)) : Type 0 where

@@ -1,14 +1,5 @@
-pub mod Escapes
-pub mod LogPrints
-pub mod LogFeeds
-pub mod LogReplies
-pub mod Parts
-pub mod ValueTells
-pub mod TellLines
-pub mod LineFeeds
+pub mod WholeLines
 pub mod LineReplies
-pub mod LineReads
-pub mod Printing
 pub mod Hexadecimals
 pub mod LineMessages
 pub mod FrameLines

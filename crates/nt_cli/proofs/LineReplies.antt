@@ -4,11 +4,11 @@ use Rattle.std.proofs.Math.Seq.{take-append-add, take-append_seam}
 use Rattle.std.proofs.lemmas.Bool.{lt-ltb, le-ltb, cases_lt}
 use Rattle.std.proofs.lemmas.List.{take_all}
 use Rattle.nt_rules.specs.declared.act.Entry.{Entry}
-use Rattle.nt_cli.specs.Lines.{too_long}
-use Rattle.nt_cli.specs.LineReading.{most_line, IsUnbroken}
-use Rattle.nt_cli.specs.Reply.{Reply, with_text}
+use Rattle.nt_tools.specs.Lines.{too_long}
+use Rattle.nt_tools.specs.LineReading.{most_line, IsUnbroken}
+use Rattle.nt_tools.specs.Reply.{Reply, with_text}
 use Rattle.nt_cli.specs.Desk.{Decoding, is_empty, whole_lines, last_line, line_fault, turn_text, last_text, after_turn, last_reply, lines_reply, reply_within}
-use Rattle.nt_cli.proofs.LineFeeds.{all_before_first, whole_lines-append, last_line-append, whole_lines-unbroken, last_line-unbroken}
+use Rattle.nt_cli.proofs.WholeLines.{all_before_first, whole_lines-append, last_line-append, whole_lines-unbroken, last_line-unbroken}
 
 -- the replies that end a desk
 abbrev pub long_reply : ℕ → Reply

@@ -2,8 +2,8 @@
 use Rattle.std.proofs.Common.{◌≡◌, ℕ, ◌+◌, ◌≤◌, List}
 use Rattle.std.specs.declared.option.Option.{Option}
 use Rattle.nt_rules.specs.history.Step.{ServerState}
-use Rattle.nt_cli.specs.Input.{most_bytes}
-use Rattle.nt_cli.specs.LineReading.{Ahead}
+use Rattle.nt_tools.specs.Input.{most_bytes}
+use Rattle.nt_tools.specs.LineReading.{Ahead}
 use Rattle.nt_cli.specs.DeskRun.{beginning, GoesOn}
 use Rattle.nt_cli.specs.Desk.{Decoding, IsDecoding}
 

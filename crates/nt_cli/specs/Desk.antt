@@ -26,15 +26,15 @@ use Rattle.nt_rules.specs.history.Now.{now_of}
 use Rattle.nt_rules.specs.history.Metas.{all_lives}
 use Rattle.nt_rules.specs.history.Owed.{owed, messages}
 use Rattle.nt_rules.specs.history.Answer.{answer, entry, moment_of}
-use Rattle.nt_cli.specs.Input.{most_bytes, piece_bytes}
-use Rattle.nt_cli.specs.Lines.{too_long}
-use Rattle.nt_cli.specs.LineReading.{most_line, is_feed}
+use Rattle.nt_tools.specs.Input.{most_bytes, piece_bytes}
+use Rattle.nt_tools.specs.Lines.{too_long}
+use Rattle.nt_tools.specs.LineReading.{most_line, is_feed}
 use Rattle.nt_cli.specs.Hexadecimal.{is_binary, digits_in, hex_bytes, hex_line}
-use Rattle.nt_cli.specs.declared.status.Status.{Status}
-use Rattle.nt_cli.specs.declared.status.ToolFault.{ToolFault}
-use Rattle.nt_cli.specs.declared.status.ToolFault.TheVariants.{Memory, Read, Write}
-use Rattle.nt_cli.specs.Reply.{Reply, IsGiven, IsPrefix, IsCutShort, with_text}
-use Rattle.nt_cli.specs.Printing.{number_of}
+use Rattle.nt_tools.specs.declared.status.Status.{Status}
+use Rattle.nt_tools.specs.declared.status.ToolFault.{ToolFault}
+use Rattle.nt_tools.specs.declared.status.ToolFault.TheVariants.{Memory, Read, Write}
+use Rattle.nt_tools.specs.Reply.{Reply, IsGiven, IsPrefix, IsCutShort, with_text}
+use Rattle.nt_tools.specs.Printing.{number_of}
 
 -- whether a list has no item
 abbrev pub is_empty : {X : Type 0} → List X → Bool

@@ -4,13 +4,13 @@ use Rattle.std.specs.Io.KnownBytes.{Consumes, IsAtEnd, Appends}
 use Rattle.nt_rules.specs.declared.act.Entry.{Entry}
 use Rattle.nt_rules.specs.history.Now.{now_of, is_open_for}
 use Rattle.nt_rules.specs.history.Step.{ServerState, Represents}
-use Rattle.nt_cli.specs.declared.status.Status.{Status}
-use Rattle.nt_cli.specs.declared.status.ToolFault.{ToolFault}
-use Rattle.nt_cli.specs.declared.status.ToolFault.TheVariants.{Memory, Read, Write}
-use Rattle.nt_cli.specs.LineReading.{Ahead}
-use Rattle.nt_cli.specs.Reply.{Reply, IsGiven, IsPrefix, IsCutShort, with_text}
-use Rattle.nt_cli.specs.Printing.{number_of}
-use Rattle.nt_cli.specs.Input.{most_bytes, piece_bytes, Took, MayFollow}
+use Rattle.nt_tools.specs.declared.status.Status.{Status}
+use Rattle.nt_tools.specs.declared.status.ToolFault.{ToolFault}
+use Rattle.nt_tools.specs.declared.status.ToolFault.TheVariants.{Memory, Read, Write}
+use Rattle.nt_tools.specs.LineReading.{Ahead}
+use Rattle.nt_tools.specs.Reply.{Reply, IsGiven, IsPrefix, IsCutShort, with_text}
+use Rattle.nt_tools.specs.Printing.{number_of}
+use Rattle.nt_tools.specs.Input.{most_bytes, piece_bytes, Took, MayFollow}
 use Rattle.nt_cli.specs.Desk.{Decoding, start, worker, conn, opened, reply_within}
 
 -- the table stands for a history in which the desk's connection is open

@@ -1,13 +1,6 @@
 pub mod Words
-pub mod Input
 pub mod Lines
-pub mod ItemLines
-pub mod Reply
-pub mod Printing
-pub mod LogTools
-pub mod LineReading
 pub mod Hexadecimal
 pub mod Desk
 pub mod DeskRun
 pub mod Tool
-pub mod LogRun

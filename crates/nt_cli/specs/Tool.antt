@@ -3,14 +3,14 @@ use Rattle.std.specs.Prelude.{◌≡◌, ℕ, List, Option, None, Some, Result, 
 use Rattle.std.specs.Io.KnownBytes.{Keeps}
 use Rattle.nt_cli.specs.declared.words.Tool.{Tool}
 use Rattle.nt_cli.specs.declared.words.Tool.TheVariants.{Log, Desk}
-use Rattle.nt_cli.specs.declared.status.Status.{Status}
-use Rattle.nt_cli.specs.declared.status.ToolFault.{ToolFault}
-use Rattle.nt_cli.specs.declared.status.ToolFault.TheVariants.{Memory, Read, Write}
-use Rattle.nt_cli.specs.Reply.{Reply, IsGiven, IsCutShort}
+use Rattle.nt_tools.specs.declared.status.Status.{Status}
+use Rattle.nt_tools.specs.declared.status.ToolFault.{ToolFault}
+use Rattle.nt_tools.specs.declared.status.ToolFault.TheVariants.{Memory, Read, Write}
+use Rattle.nt_tools.specs.Reply.{Reply, IsGiven, IsCutShort}
 use Rattle.nt_cli.specs.Words.{tool_of}
 use Rattle.nt_cli.specs.Lines.{usage}
-use Rattle.nt_cli.specs.Printing.{number_of}
-use Rattle.nt_cli.specs.LogTools.{IsReply, RepliesToSource, StopsLog, HasBroken, EndsLog}
+use Rattle.nt_tools.specs.Printing.{number_of}
+use Rattle.nt_log_tools.specs.LogTools.{IsReply, RepliesToSource, StopsLog, HasBroken, EndsLog}
 use Rattle.nt_cli.specs.Desk.{RepliesAtDesk, RepliesToTaken, DeskBegun, DeskBroken, EndsDesk}
 
 -- ---- all words

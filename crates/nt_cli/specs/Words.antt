@@ -1,8 +1,8 @@
 -- What the words after the program's name ask for.
 use Rattle.std.specs.Prelude.{ℕ, List, [], ◌∷◌, codes, Option, None, Some, option_map, if◌then◌else◌}
 use Rattle.std.specs.Str.{bytes_eq}
-use Rattle.nt_cli.specs.declared.words.LogTool.{LogTool}
-use Rattle.nt_cli.specs.declared.words.LogTool.TheVariants.{Check, Show}
+use Rattle.nt_log_tools.specs.declared.command.LogTool.{LogTool}
+use Rattle.nt_log_tools.specs.declared.command.LogTool.TheVariants.{Check, Show}
 use Rattle.nt_cli.specs.declared.words.Tool.{Tool}
 use Rattle.nt_cli.specs.declared.words.Tool.TheVariants.{Log, Desk}
 

@@ -4,20 +4,18 @@ ghost use Rattle.std.specs.Prelude.{◌≡◌, ◌≤◌, ◌<◌, ◌+◌, ◌^
 ghost use Rattle.std.specs.Option.{ForSome};
 ghost use Rattle.nt_link.specs.Causes.{Rose, IsLater};
 ghost use Rattle.nt_rules.specs.declared.act.Entry.{Entry};
-ghost use Rattle.nt_cli.specs.Input.{most_bytes};
-ghost use Rattle.nt_cli.specs.Reply.{Reply};
-ghost use Rattle.nt_cli.specs.Printing.{number_of, Prints, Follows};
+ghost use Rattle.nt_tools.specs.Input.{most_bytes};
+ghost use Rattle.nt_tools.specs.Reply.{Reply};
+ghost use Rattle.nt_tools.specs.Printing.{number_of, Prints, Follows};
 ghost use Rattle.nt_cli.specs.Desk.{Decoding, IsDecoding, opened, last_text, RepliesAtDesk, EndsDesk};
 ghost use Rattle.nt_cli.specs.DeskRun.{IsConnected, beginning, Ends, Turns};
 
 use crate::desk_output::print_line_fault;
-use crate::line::{LineEnd, LineFault, LineReader};
-use crate::output::{TOO_LONG, print};
-use crate::status::{Status, ToolFault};
 use crate::turn::{answer_line, open_server};
 use nt_frames::frames_have_a_meaning;
 use nt_link::{Sink, Source};
 use nt_server::Server;
+use nt_tools::{LineEnd, LineFault, LineReader, Status, TOO_LONG, ToolFault, print};
 use std::alloc::{AllocError, Global};
 
 /// The desk: answers what the source has left, line by line, and prints the frames that its

@@ -3,12 +3,11 @@
 ghost use Rattle.std.specs.Prelude.{◌≡◌, IfOk, IsErrOf, string_bytes};
 ghost use Rattle.nt_link.specs.Causes.{Rose, IsLater};
 ghost use Rattle.nt_cli.specs.Desk.{line_fault, frame_line, lines_of};
-ghost use Rattle.nt_cli.specs.Printing.{Prints};
+ghost use Rattle.nt_tools.specs.Printing.{Prints};
 
 use crate::hexadecimal::hex_line;
-use crate::output::print;
-use crate::status::ToolFault;
 use nt_link::{Frame, Sink};
+use nt_tools::{ToolFault, print};
 use std::alloc::{AllocError, Global};
 
 /// A frame as a line: a text frame as it is, and a binary one in hexadecimal digits.

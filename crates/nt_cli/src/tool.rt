@@ -3,16 +3,15 @@
 ghost use Rattle.std.specs.Prelude.{◌≡◌, ◌≤◌, ◌⊎◌, List, ℕ, Some, None, IfOk, IsErrOf, map, string_bytes};
 ghost use Rattle.nt_link.specs.Causes.{Rose, StaysAtEnd, IsLater};
 ghost use Rattle.nt_cli.specs.Words.{tool_of};
-ghost use Rattle.nt_cli.specs.Reply.{Reply, IsGiven, IsPrefix};
-ghost use Rattle.nt_cli.specs.Printing.{number_of, Follows};
+ghost use Rattle.nt_tools.specs.Reply.{Reply, IsGiven, IsPrefix};
+ghost use Rattle.nt_tools.specs.Printing.{number_of, Follows};
 ghost use Rattle.nt_cli.specs.Tool.{Replies, Decides, Stops, Unread, Unwritten, Ends};
 
 use crate::desk::desk;
-use crate::log_tool::run_log_tool;
-use crate::output::tell;
-use crate::status::{Status, ToolFault};
 use crate::words::{Tool, tool_of};
 use nt_link::{Sink, Source};
+use nt_log_tools::run_log_tool;
+use nt_tools::{Status, ToolFault, tell};
 use std::alloc::Global;
 
 /// Runs the tool that these words ask for, those after the program's name, and answers its status:

@@ -7,15 +7,15 @@ ghost use Rattle.nt_rules.specs.declared.act.Entry.{Entry};
 ghost use Rattle.nt_rules.specs.history.Step.{IsPut};
 ghost use Rattle.nt_cli.specs.Desk.{Decoding, IsDecoding, opened, count_owed, answer_to, answers_to, with_message, with_drain, with_messages, batch, batch_lines, drained, after_drains, turn_text, after_turn};
 ghost use Rattle.nt_cli.specs.DeskRun.{IsConnected};
-ghost use Rattle.nt_cli.specs.Printing.{Prints};
+ghost use Rattle.nt_tools.specs.Printing.{Prints};
 
 use crate::desk_output::print_frames;
 use crate::messages::messages_in;
-use crate::status::ToolFault;
 use nt_link::{Frame, Sink};
 use nt_rules::{Act, Msg, StepOut};
 use nt_server::Server;
 use nt_session::{clock_answer, frames_of};
+use nt_tools::ToolFault;
 use nt_topics::{ClientName, Version};
 use std::alloc::{AllocError, Global};
 

@@ -5,6 +5,7 @@ ghost use Rattle.std.specs.Option.{option_copied};
 ghost use Rattle.nt_cli.specs.Words.{log_tool, tool_of, file_of};
 ghost use Rattle.nt_cli.specs.declared.words.UsageFault.TheVariants.{Memory};
 
+use nt_log_tools::LogTool;
 use nt_values::Text;
 use std::alloc::{AllocError, Global};
 use thiserror::Error;
@@ -16,15 +17,6 @@ pub enum Tool {
     Log(LogTool),
     /// Answers the lines of standard input.
     Desk,
-}
-
-/// A tool that reads a log.
-#[derive(Clone, Copy)]
-pub enum LogTool {
-    /// Tells whether it is whole.
-    Check,
-    /// Prints its items.
-    Show,
 }
 
 /// Why words give no files.

@@ -459,10 +459,10 @@ fn counts(alloc: Global, frame: &Frame) -> Result<(usize, u32, usize), Fail> {
 #[test]
 fn great_frames_are_taken(rt: HostRuntime) -> Result<(), Fail> {
     let alloc = rt.alloc();
-    // Where ids fall, an update passes over all that ended before.
+    // Ids that ended are of no cost to an update, also where ids fall.
     let many = [
         (10_000, false, (7_500, 2_501, 1)),
-        (1_000, true, (750, 251, 1)),
+        (10_000, true, (7_500, 2_501, 1)),
     ];
     for (count, falling, told) in many {
         let frame = many_elements(alloc, count, falling)?;

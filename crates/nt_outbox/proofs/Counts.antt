@@ -1,14 +1,11 @@
 -- As many messages are owed as the topics leave. A number of 64 bits counts them.
-use Rattle.std.proofs.Common.{◌≡◌, ◌≤◌, ◌+◌, ◌*◌, ◌-◌, ◌^◌, min, ℕ, Bool, true, false, cond, not, ◌&&◌, List, [], ◌∷◌, Option, Some, None, is_some, map, length, refl, arith, length-append}
+use Rattle.std.proofs.Common.{◌≡◌, ◌≤◌, ◌<◌, ◌+◌, ◌*◌, ◌^◌, ℕ, Bool, true, false, cond, not, ◌&&◌, List, [], ◌∷◌, Option, Some, None, map, length, refl, arith, length-append}
 use Rattle.std.specs.List.{flat_map}
-use Rattle.std.proofs.lemmas.Bool.Decides.{nat_tests}
-use Rattle.nt_rules.specs.Limits.{most_weight}
 use Rattle.nt_rules.specs.declared.waiting.Placed.{Placed}
 use Rattle.nt_rules.specs.declared.waiting.Setting.{Setting}
 use Rattle.nt_rules.specs.outbox.Marks.{Mark}
 use Rattle.nt_rules.specs.outbox.Keys.{Key, is_before, insert_key, in_order, end_key, publish_key, setting_key, topic_key, value_key}
 use Rattle.nt_rules.specs.outbox.Marks.{end_keys, reply_keys, topic_keys, value_keys, newest_keys, keys, option_items, settings_weight, values_weight, mark_weight, weight, is_wish, is_empty}
-use Rattle.nt_rules.specs.outbox.Calls.{fallen, unless_behind}
 use Rattle.nt_outbox.specs.Steps.{mark_count, count, RiseFrom}
 
 length-mapped : {X : Type 0} (f : X → Key) (xs : List X) → length (map f xs) ≡ length xs
@@ -106,23 +103,9 @@ few : (n : ℕ) (ms : List Mark) → RiseFrom n ms → n + length ms ≤ 2 ^ 32
 few n [] h = omega arith
 few n (m ∷ ms) h = let first = h.0 in let more = few (m.id + 1) ms h.1 in omega arith
 
--- where the connection has not fallen behind, a number of 64 bits counts what is owed
-fits : (fell : Option ℕ) (ms : List Mark) → RiseFrom 0 ms → fallen fell (weight ms) ≡ None
-    → length (keys ms) ≤ 2 ^ 64 - 1
-fits (Some f) ms rising none = absurd (cc)
-fits None ms rising none =
-    let light : weight ms ≤ most_weight = grind (arith, nat_tests) in
-    let same = length-keys ms in
+-- where their weight fits 64 bits, so does their number
+pub counts-fit : (ms : List Mark) → RiseFrom 0 ms → weight ms < 2 ^ 64 → count ms < 2 ^ 60
+counts-fit ms rising light =
     let all = all-weigh ms in
     let topics = few 0 ms rising in
     omega arith
-
--- so a count that stops at the greatest number is that of what is owed
-pub counted : (fell : Option ℕ) (ms : List Mark) (n : ℕ) → RiseFrom 0 ms
-    → is_some (fallen fell (weight ms)) ≡ false → n ≡ min (length (keys ms)) (2 ^ 64 - 1)
-    → n ≡ length (keys (unless_behind (fallen fell (weight ms)) ms))
-counted fell ms n rising none e = by (fallen fell (weight ms)) refl none
-  where
-    by : (o : Option ℕ) → fallen fell (weight ms) ≡ o → is_some o ≡ false → n ≡ length (keys (unless_behind o ms))
-    by (Some w) same none = absurd (cc)
-    by None same none = let less = fits fell ms rising same in omega arith

@@ -1,9 +1,15 @@
+pub mod Ids
 pub mod Weights
 pub mod Places
 pub mod Order
 pub mod Batches
 pub mod Counts
+pub mod Changes
+pub mod Blanks
+pub mod Owed
+pub mod Sound
 pub mod Queues
 pub mod Handed
+pub mod Runs
 pub mod Noted
 pub mod Sendable

@@ -247,7 +247,7 @@ mark-found id (m ∷ ms) i x e h = by (eqb m.id id) (ltb id m.id) e (λ j e h. m
     by false true e more = absurd (cc)
     by false false e more = next (position_of id ms) refl e more
 
-below-none : (id n : ℕ) (ms : List Mark) → RiseFrom n ms → id < n → mark_at id ms ≡ None
+pub below-none : (id n : ℕ) (ms : List Mark) → RiseFrom n ms → id < n → mark_at id ms ≡ None
 below-none id n [] h lt = refl
 below-none id n (m ∷ ms) h lt =
     let first = h.0 in
@@ -284,7 +284,7 @@ rise-filter n p (m ∷ ms) h = by (p m) (rise-filter (m.id + 1) p ms h.1)
     by true rest = (h.0, rest)
     by false rest = let first = h.0 in rise-weaker (m.id + 1) n (filter p ms) (omega arith) rest
 
-rise-handed : (n : ℕ) (ks : List Key) (ms : List Mark) → RiseFrom n ms → RiseFrom n (map (handed ks) ms)
+pub rise-handed : (n : ℕ) (ks : List Key) (ms : List Mark) → RiseFrom n ms → RiseFrom n (map (handed ks) ms)
 rise-handed n ks [] h = h
 rise-handed n ks (m ∷ ms) h = (h.0, rise-handed (m.id + 1) ks ms h.1)
 

@@ -1,8 +1,11 @@
 -- What happens to what is kept of a topic, as cases; and where a topic stands among those that are kept.
-use Rattle.std.specs.Prelude.{ℕ, suc, List, [], ◌∷◌, length, Option, Some, None, Result, Ok, Err, ◌≡◌, ◌≤◌, ◌+◌, ◌^◌, ◌==◌, nat_lt, if◌then◌else◌}
+use Rattle.std.specs.Prelude.{ℕ, suc, Bool, false, List, [], ◌∷◌, length, Option, Some, None, Result, Ok, Err, ◌≡◌, ◌≤◌, ◌+◌, ◌^◌, ◌==◌, nat_lt, if◌then◌else◌}
+use Rattle.std.specs.List.{AllByRecursion}
 use Rattle.nt_subs.specs.declared.wish.Wanted.{Wanted}
 use Rattle.nt_subs.specs.declared.wish.Wanted.TheVariants.{Newest}
 use Rattle.nt_rules.specs.outbox.Marks.{Mark}
+use Rattle.nt_rules.specs.outbox.Keys.{Key}
+use Rattle.nt_rules.specs.outbox.Messages.{mark_at}
 use Rattle.nt_outbox.specs.declared.step.Step.{Step}
 use Rattle.nt_outbox.specs.declared.step.Step.TheVariants as step
 use Rattle.nt_rules.specs.outbox.Marks.{started, queued, noted_setting, ended, still_queued, replied_publish, replied_setting, newest_of, from_place, is_blank, weight, at_id, option_items, topic_keys}
@@ -72,9 +75,40 @@ abbrev pub count : List Mark → ℕ
 count [] = 0
 count (m ∷ marks) = mark_count m + count marks
 
+-- the topics of which some message is owed, by their ids
+abbrev pub owes : Mark → Bool
+owes m = nat_lt 0 (mark_count m)
+
+abbrev pub owing_ids : List Mark → List ℕ
+owing_ids [] = []
+owing_ids (m ∷ marks) = if owes m then m.id ∷ owing_ids marks else owing_ids marks
+
+-- how many messages are owed of the topic of an id
+abbrev pub count_in : Option Mark → ℕ
+count_in None = 0
+count_in (Some m) = mark_count m
+
+abbrev pub count_at : ℕ → List Mark → ℕ
+count_at id marks = count_in (mark_at id marks)
+
 -- ---- what an outbox keeps
 
--- the ids rise, and the weight is that of what is queued
-pub record IsSound (marks : List Mark) (queued : ℕ) : Type 0 where
+-- the ids rise, and all that is told of the topics as a whole is so
+pub record IsSound (marks : List Mark) (owing : List ℕ) (queued owed : ℕ) : Type 0 where
   pub rising : RiseFrom 0 marks
+  pub named : owing ≡ owing_ids marks
   pub weighed : queued ≡ weight marks
+  pub counted : owed ≡ count marks
+
+-- of each topic something has to be kept
+abbrev pub HasNoBlank : List Mark → Type 0
+HasNoBlank marks = AllByRecursion (λ m. is_blank m ≡ false) marks
+
+-- the keys are of the topic of this id
+abbrev pub AreOf : ℕ → List Key → Type 0
+AreOf id keys = AllByRecursion (λ k. k.topic ≡ id) keys
+
+-- how many of the first keys are
+abbrev pub run_of : ℕ → List Key → ℕ
+run_of id [] = 0
+run_of id (k ∷ keys) = if k.topic == id then suc (run_of id keys) else 0

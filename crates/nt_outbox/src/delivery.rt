@@ -1,11 +1,11 @@
 //! Taking what was handed out of what is kept.
 
-ghost use Rattle.std.specs.Prelude.{◌≡◌, filter, map, max, not};
+ghost use Rattle.std.specs.Prelude.{◌≡◌, filter, max, not};
 ghost use Rattle.std.specs.List.{list_any};
 ghost use Rattle.nt_rules.specs.outbox.Keys.{announces, is_in, next_value};
-ghost use Rattle.nt_rules.specs.outbox.Marks.{handed, handed_all, is_blank, without};
+ghost use Rattle.nt_rules.specs.outbox.Marks.{handed, is_blank, without};
 ghost use Rattle.nt_outbox.specs.Kinds.{kind_of};
-ghost use Rattle.nt_outbox.specs.Steps.{next_of};
+ghost use Rattle.nt_outbox.specs.Steps.{next_of, run_of};
 
 use crate::key::{Key, Kind};
 use crate::mark::{Mark, is_after, is_blank, place_after};
@@ -63,7 +63,7 @@ fn without(keys: &[Key], over: Option<u64>, id: u32) -> Option<u64>
 }
 
 /// Takes what was handed out of what is kept of a topic.
-fn hand(alloc: Global, mark: &mut Mark, keys: &[Key])
+pub fn hand(alloc: Global, mark: &mut Mark, keys: &[Key])
     ensures { mark.new ≡ handed keys.now mark.old }
 {
     let id = mark.id;
@@ -83,24 +83,21 @@ fn hand(alloc: Global, mark: &mut Mark, keys: &[Key])
     mark.newest = place_after(mark.newest, last);
 }
 
-fn hand_each(alloc: Global, marks: &mut [Mark], keys: &[Key])
-    ensures { marks.new ≡ map (handed keys.now) marks.old }
-{
-    for mark in marks.iter_mut() {
-        hand(alloc, mark, keys);
-    }
-}
-
-fn keep_marks(marks: &mut Vec<Mark>)
+/// Takes the topics out of which nothing has to be kept.
+pub fn keep_marks(marks: &mut Vec<Mark>)
     ensures { marks.new.items ≡ filter (λ m. not (is_blank m)) marks.old.items }
 {
     marks.retain(|mark| !is_blank(mark));
 }
 
-/// Takes what was handed out of all that is kept.
-pub fn hand_all(alloc: Global, marks: &mut Vec<Mark>, keys: &[Key])
-    ensures { marks.new.items ≡ handed_all keys.now marks.old.items }
+/// How many of the first keys are of the topic of this id.
+pub fn run_len(keys: &[Key], id: u32) -> usize
+    ensures { result ≡ run_of id keys.now }
 {
-    hand_each(alloc, marks, keys);
-    keep_marks(marks);
+    for (i, key) in keys.iter().enumerate() {
+        if key.topic != id {
+            return i;
+        }
+    }
+    keys.len()
 }

@@ -3,11 +3,13 @@
 
 mod call;
 mod delivery;
+mod kept;
 mod key;
 mod mark;
 mod marks;
 mod message;
 mod outbox;
+mod owing;
 mod queue;
 mod step;
 mod weight;

@@ -3,13 +3,13 @@
 ghost use Rattle.std.specs.Prelude.{◌≡◌, ◌==◌, List, option_copied, IfOk};
 ghost use Rattle.std.specs.List.{find};
 ghost use Rattle.nt_rules.specs.declared.meta.MetaNow.{MetaNow};
-ghost use Rattle.nt_rules.specs.outbox.Messages.{unannounced, announced, uid_at, properties, text_by, no_value, held_value, meta_value, placed_value, value_by, mark_at, text_of, value_of, batch_of};
+ghost use Rattle.nt_rules.specs.outbox.Messages.{unannounced, announced, uid_at, properties, text_by, no_value, held_value, meta_value, placed_value, value_by, text_of, value_of, batch_of};
 ghost use Rattle.nt_outbox.specs.Kinds.{kind_of};
 ghost use Rattle.nt_outbox.specs.Steps.{RiseFrom};
 
 use crate::key::{Key, Kind};
 use crate::mark::Mark;
-use crate::marks::position;
+use crate::marks::mark_at;
 use nt_control::ServerMsg;
 use nt_frames::ValueMsg;
 use nt_rules::{Batch, FIRST_META, MetaNow, Placed, Publish, Setting, Timed};
@@ -230,17 +230,6 @@ fn value_by(
         meta_value(alloc, now, mark.id, metas)
     } else {
         topic_value(alloc, table, mark, place)
-    }
-}
-
-/// What is kept of the topic of this id.
-fn mark_at(marks: &[Mark], id: u32) -> Option<&Mark>
-    requires { RiseFrom 0 marks.now }
-    ensures { option_copied result ≡ mark_at id marks.now }
-{
-    match position(marks, id) {
-        Ok(i) => Some(&marks[i]),
-        Err(_) => None,
     }
 }
 

@@ -2,19 +2,15 @@
 
 ghost use Rattle.std.specs.Prelude.{◌≡◌, ◌≤◌, ◌↔◌, true, false, [], length, IfOk, OnOk, OnErr, None, option_copied, is_some, not, take};
 ghost use Rattle.nt_rules.specs.outbox.Calls.{nothing_owed, id_of, behind, at_place, with_call, reached, noted, turned_to, rewanted_to, meta_rewanted, meta_changed, meta_ended, keys_of, weight_of, drained, drained_batch};
-ghost use Rattle.nt_rules.specs.outbox.Marks.{keys, handed_all, weight};
+ghost use Rattle.nt_rules.specs.outbox.Marks.{keys, handed_all};
 ghost use Rattle.nt_rules.specs.outbox.Messages.{batch_of};
 ghost use Rattle.nt_rules.specs.outbox.Replies.{replied_to};
-ghost use Rattle.nt_outbox.specs.Steps.{after, at_known, RiseFrom};
+ghost use Rattle.nt_outbox.specs.Steps.{after, at_known, HasNoBlank};
 
 use crate::call::{meta_step, meta_wish, rewant_step, setting, value_step};
-use crate::delivery::hand_all;
-use crate::mark::Mark;
-use crate::marks::{change, turned_at};
+use crate::kept::Kept;
 use crate::message::batch_of;
-use crate::queue::{count, keys};
 use crate::step::Step;
-use crate::weight::weight;
 use nt_rules::{Batch, Change, MOST_WEIGHT, MetaNow, Publish, Reply, Topic};
 use nt_subs::Wanted;
 use nt_table::Table;
@@ -35,10 +31,8 @@ pub struct Outbox {
     place: u64,
     /// The weight with which the connection fell behind at a place before that one.
     fell: Option<u64>,
-    /// The topics of which something is kept, by rising id.
-    marks: Vec<Mark>,
-    /// The weight of what is queued.
-    weight: u64,
+    /// What is kept of each topic.
+    kept: Kept,
 }
 
 impl Model for Outbox {
@@ -50,16 +44,16 @@ impl Model for Outbox {
 
     ghost coded = { Prim.hlevel (codes, update.the_row.coded) };
 
-    ghost use Rattle.nt_outbox.specs.Steps.{IsSound};
+    ghost use Rattle.nt_outbox.specs.Steps.{HasNoBlank};
 
     ghost view = { λ o. record {
       failed = o.failed;
       place = o.place;
       fell = o.fell;
-      marks = o.marks.items;
+      marks = o.kept;
     } };
 
-    ghost invariant = { λ o. IsSound o.marks.items o.weight };
+    ghost invariant = { λ o. HasNoBlank o.kept };
 }
 
 impl Outbox {
@@ -71,8 +65,7 @@ impl Outbox {
             failed: false,
             place: 0,
             fell: None,
-            marks: Vec::new(alloc),
-            weight: 0,
+            kept: Kept::new(alloc),
         }
     }
 
@@ -81,8 +74,7 @@ impl Outbox {
         ensures { self.new.failed ≡ true }
     {
         self.failed = true;
-        self.marks.clear();
-        self.weight = 0;
+        self.kept.clear();
         AllocError
     }
 
@@ -97,8 +89,7 @@ impl Outbox {
             self.place = place;
         }
         if self.fell.is_some() {
-            self.marks.clear();
-            self.weight = 0;
+            self.kept.clear();
             return false;
         }
         true
@@ -128,12 +119,10 @@ impl Outbox {
         let Some(id) = id else {
             return Ok(());
         };
-        let mut marks = mem::replace(&mut self.marks, Vec::new(alloc));
-        let queued = mem::replace(&mut self.weight, 0);
-        match change(alloc, &mut marks, queued, id, name, step) {
-            Ok(weight) => {
-                self.marks = marks;
-                self.weight = weight;
+        let kept = mem::replace(&mut self.kept, Kept::new(alloc));
+        match kept.changed(alloc, id, name, step) {
+            Ok(kept) => {
+                self.kept = kept;
                 Ok(())
             }
             Err(_) => Err(self.fail()),
@@ -190,8 +179,7 @@ impl Outbox {
         ensures failed { self.new.failed ≡ self.old.failed }
     {
         if self.reach(place) {
-            let alloc = *self.marks.allocator();
-            self.weight = turned_at(alloc, &mut self.marks, self.weight, id);
+            self.kept.turn(id);
         }
     }
 
@@ -300,7 +288,7 @@ impl Outbox {
         if self.behind().is_some() {
             return 0;
         }
-        count(&self.marks)
+        self.kept.count()
     }
 
     /// The weight of what is queued: 0 where the connection has fallen behind.
@@ -310,7 +298,7 @@ impl Outbox {
         if self.behind().is_some() {
             return 0;
         }
-        self.weight
+        self.kept.weight()
     }
 
     /// The weight with which the connection has fallen behind: that after the last call of the
@@ -318,9 +306,10 @@ impl Outbox {
     pub fn behind(&self) -> Option<u64>
         ensures { result ≡ behind self.now }
     {
+        let queued = self.kept.weight();
         match self.fell {
             Some(weight) => Some(weight),
-            None if self.weight > MOST_WEIGHT => Some(self.weight),
+            None if queued > MOST_WEIGHT => Some(queued),
             None => None,
         }
     }
@@ -351,12 +340,10 @@ impl Outbox {
         if self.failed {
             return Err(AllocError);
         }
-        let mut marks = mem::replace(&mut self.marks, Vec::new(alloc));
-        self.weight = 0;
-        match hand(alloc, now, budget, table, metas, &mut marks) {
-            Ok((batch, weight)) => {
-                self.marks = marks;
-                self.weight = weight;
+        let kept = mem::replace(&mut self.kept, Kept::new(alloc));
+        match hand(alloc, now, budget, table, metas, kept) {
+            Ok((batch, kept)) => {
+                self.kept = kept;
                 Ok(batch)
             }
             Err(_) => Err(self.fail()),
@@ -371,29 +358,24 @@ fn id_of(id: i64) -> Option<u32>
     u32::try_from(id).ok()
 }
 
-/// Hands the first messages that are owed, at most so many, takes them out, and answers the weight
-/// of what is queued then.
+/// Hands the first messages that are owed, at most so many, and takes them out of what is kept.
 fn hand(
     alloc: Global,
     now: u64,
     budget: u32,
     table: &Table,
     metas: &[MetaNow],
-    marks: &mut Vec<Mark>,
-) -> Result<(Batch, u64), AllocError>
-    requires { RiseFrom 0 marks.old.items }
+    kept: Kept,
+) -> Result<(Batch, Kept), AllocError>
+    requires { HasNoBlank kept }
     ensures batch { IfOk result (λ r. r.0 ≡ batch_of
         (record { topics = table.now.topics; metas = metas.now })
-        now marks.old.items (take budget (keys marks.old.items))) }
-    ensures marks { OnOk result (marks.new.items
-        ≡ handed_all (take budget (keys marks.old.items)) marks.old.items) }
-    ensures rising { OnOk result (RiseFrom 0 marks.new.items) }
-    ensures weight { IfOk result (λ r. r.1 ≡ weight marks.new.items) }
+        now kept (take budget (keys kept))) }
+    ensures kept { IfOk result (λ r. r.1 ≡ handed_all (take budget (keys kept)) kept) }
 {
-    let mut keys = keys(alloc, marks)?;
+    let mut keys = kept.keys(alloc)?;
     keys.truncate(budget as usize);
-    let batch = batch_of(alloc, table, metas, now, marks, &keys)?;
-    hand_all(alloc, marks, &keys);
-    let weight = weight(marks)?;
-    Ok((batch, weight))
+    let batch = batch_of(alloc, table, metas, now, kept.marks(), &keys)?;
+    let kept = kept.handed(alloc, keys)?;
+    Ok((batch, kept))
 }

@@ -1,12 +1,13 @@
 //! Which messages are owed, in the order in which they are handed.
 
-ghost use Rattle.std.specs.Prelude.{◌≡◌, ◌++◌, ◌-◌, ◌^◌, min, length, IfOk, OnOk};
+ghost use Rattle.std.specs.Prelude.{◌≡◌, ◌++◌, IfOk, OnOk};
 ghost use Rattle.nt_rules.specs.outbox.Keys.{in_order};
-ghost use Rattle.nt_rules.specs.outbox.Marks.{reply_keys, value_keys, keys};
-ghost use Rattle.nt_outbox.specs.Steps.{mark_count};
+ghost use Rattle.nt_rules.specs.outbox.Marks.{end_keys, reply_keys, topic_keys, value_keys, newest_keys, keys};
+ghost use Rattle.nt_outbox.specs.Steps.{owing_ids, RiseFrom};
 
 use crate::key::{Key, Kind};
 use crate::mark::{Mark, owes_topic};
+use crate::marks::mark_at;
 use std::alloc::{AllocError, Global};
 
 /// Puts keys in order: by place, and at one place by the topic's id.
@@ -56,8 +57,54 @@ fn add_values(keys: &mut Vec<Key>, mark: &Mark) -> Result<(), AllocError>
     Ok(())
 }
 
-/// All that is owed, in the order in which it is handed.
-pub fn keys(alloc: Global, marks: &[Mark]) -> Result<Vec<Key>, AllocError>
+/// All that is owed of a topic, each kind behind what is owed of others.
+fn add_owed(
+    ends: &mut Vec<Key>,
+    replies: &mut Vec<Key>,
+    announces: &mut Vec<Key>,
+    values: &mut Vec<Key>,
+    newest: &mut Vec<Key>,
+    mark: &Mark,
+) -> Result<(), AllocError>
+    ensures ends { OnOk result (ends.new.items ≡ ends.old.items ++ end_keys mark.now) }
+    ensures replies { OnOk result (replies.new.items ≡ replies.old.items ++ reply_keys mark.now) }
+    ensures announces { OnOk result
+        (announces.new.items ≡ announces.old.items ++ topic_keys mark.now) }
+    ensures values { OnOk result (values.new.items ≡ values.old.items ++ value_keys mark.now) }
+    ensures newest { OnOk result (newest.new.items ≡ newest.old.items ++ newest_keys mark.now) }
+{
+    let topic = mark.id;
+    if let Some(place) = mark.over {
+        ends.push(Key {
+            kind: Kind::End,
+            topic,
+            place,
+        })?;
+    }
+    add_replies(replies, mark)?;
+    if owes_topic(mark) {
+        announces.push(Key {
+            kind: Kind::Topic,
+            topic,
+            place: 0,
+        })?;
+    }
+    add_values(values, mark)?;
+    if let Some(place) = mark.newest {
+        newest.push(Key {
+            kind: Kind::Value,
+            topic,
+            place,
+        })?;
+    }
+    Ok(())
+}
+
+/// All that is owed, in the order in which it is handed. It walks the topics of these ids, those of
+/// which something is owed, and no others.
+pub fn keys(alloc: Global, marks: &[Mark], owing: &[u32]) -> Result<Vec<Key>, AllocError>
+    requires rising { RiseFrom 0 marks.now }
+    requires owing { owing.now ≡ owing_ids marks.now }
     ensures { IfOk result (λ ks. ks.items ≡ keys marks.now) }
 {
     let mut keys = Vec::new(alloc);
@@ -65,30 +112,16 @@ pub fn keys(alloc: Global, marks: &[Mark]) -> Result<Vec<Key>, AllocError>
     let mut announces = Vec::new(alloc);
     let mut values = Vec::new(alloc);
     let mut newest = Vec::new(alloc);
-    for mark in marks {
-        let topic = mark.id;
-        if let Some(place) = mark.over {
-            keys.push(Key {
-                kind: Kind::End,
-                topic,
-                place,
-            })?;
-        }
-        add_replies(&mut replies, mark)?;
-        if owes_topic(mark) {
-            announces.push(Key {
-                kind: Kind::Topic,
-                topic,
-                place: 0,
-            })?;
-        }
-        add_values(&mut values, mark)?;
-        if let Some(place) = mark.newest {
-            newest.push(Key {
-                kind: Kind::Value,
-                topic,
-                place,
-            })?;
+    for id in owing {
+        if let Some(mark) = mark_at(marks, *id) {
+            add_owed(
+                &mut keys,
+                &mut replies,
+                &mut announces,
+                &mut values,
+                &mut newest,
+                mark,
+            )?;
         }
     }
     in_order(&mut keys)?;
@@ -99,31 +132,4 @@ pub fn keys(alloc: Global, marks: &[Mark]) -> Result<Vec<Key>, AllocError>
     keys.append(&mut values)?;
     keys.append(&mut newest)?;
     Ok(keys)
-}
-
-/// How many messages are owed of a topic, or the greatest number where there are more.
-fn mark_count(mark: &Mark) -> u64
-    ensures { result ≡ min (mark_count mark.now) (2 ^ 64 - 1) }
-{
-    let replies = (mark.publishes.as_slice().len() as u64).saturating_add(
-        mark.settings.as_slice().len() as u64,
-    );
-    let values = (mark.values.as_slice().len() as u64).saturating_add(u64::from(
-        mark.newest.is_some(),
-    ));
-    u64::from(mark.over.is_some())
-        .saturating_add(replies)
-        .saturating_add(u64::from(owes_topic(mark)))
-        .saturating_add(values)
-}
-
-/// How many messages are owed, or the greatest number where there are more.
-pub fn count(marks: &[Mark]) -> u64
-    ensures { result ≡ min (length (keys marks.now)) (2 ^ 64 - 1) }
-{
-    let mut count: u64 = 0;
-    for mark in marks {
-        count = count.saturating_add(mark_count(mark));
-    }
-    count
 }

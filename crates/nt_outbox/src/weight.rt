@@ -1,7 +1,7 @@
 //! What messages weigh.
 
 ghost use Rattle.std.specs.Prelude.{◌≡◌, ◌+◌, ◌≤◌, IfOk};
-ghost use Rattle.nt_rules.specs.outbox.Marks.{mark_weight, settings_weight, values_weight, weight};
+ghost use Rattle.nt_rules.specs.outbox.Marks.{mark_weight, settings_weight, values_weight};
 
 use crate::mark::Mark;
 use nt_rules::{Placed, Setting};
@@ -62,15 +62,4 @@ pub fn mark_weight(mark: &Mark) -> Result<u64, AllocError>
     let plain = LEAST.checked_mul(plain).ok_or(AllocError)?;
     let weight = sum(plain, settings_weight(mark.settings.as_slice())?)?;
     sum(weight, values_weight(mark.values.as_slice())?)
-}
-
-/// The weight of what is queued of topics.
-pub fn weight(marks: &[Mark]) -> Result<u64, AllocError>
-    ensures { IfOk result (λ w. w ≡ weight marks.now) }
-{
-    let mut total = 0;
-    for mark in marks {
-        total = sum(total, mark_weight(mark)?)?;
-    }
-    Ok(total)
 }

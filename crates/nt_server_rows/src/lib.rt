@@ -6,6 +6,8 @@ mod cached;
 #[cfg(test)]
 mod large;
 #[cfg(test)]
+mod long;
+#[cfg(test)]
 mod rows;
 #[cfg(test)]
 mod saved;

@@ -158,6 +158,7 @@ fn heads_have_at_most_8192_bytes_and_64_fields(rt: HostRuntime) -> Result<(), Fa
     for _ in 0..8163u16 {
         long.push('h')?;
     }
+    assert_eq!(rt; long.len(), 8192);
     let mut many = String::from_str(alloc, "GET /nt/dash HTTP/1.1\r\n")?;
     for _ in 0..65u8 {
         many.push_str("A: b\r\n")?;

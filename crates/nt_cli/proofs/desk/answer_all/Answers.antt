@@ -1,7 +1,7 @@
 use Rattle.std.proofs.Common.{◌≡◌, [], None, Some, Ok, Err, arith, rules}
 use Rattle.std.proofs.KnownBytes.{Consumes-nil}
 use Rattle.std.proofs.lemmas.Result.{err_from_is_err_and}
-use Rattle.nt_cli.specs.Printing.{number_of}
+use Rattle.nt_tools.specs.Printing.{number_of}
 use Rattle.nt_cli.specs.DeskRun.{beginning, Settles, GoesOn, Progress}
 use Rattle.nt_cli.proofs.Endings.{stops-silent, goes_on-begin, goes_on-more, ends-after}
 use Rattle.nt_cli.proofs.desk.answer_all.Goals as goal

@@ -1,5 +1,5 @@
 use Rattle.std.proofs.lemmas.Result.{err_from_is_err_and}
-use Rattle.nt_cli.proofs.Printing.{prefix-none}
+use Rattle.nt_tools.proofs.Printing.{prefix-none}
 use Rattle.nt_cli.proofs.desk_output.print_frame.Goals as goal
 
 pub returns-in_err-line-clause-prints : goal.returns-in_err-line-clause-prints

@@ -1,8 +1,8 @@
 use Rattle.std.proofs.Common.{◌≡◌, List, ℕ, rules, subst}
 use Rattle.std.proofs.lemmas.Result.{err_from_is_err_and}
 use Rattle.nt_cli.specs.Desk.{line_fault}
-use Rattle.nt_cli.specs.Printing.{Prints}
-use Rattle.nt_cli.proofs.Printing.{prefix-none}
+use Rattle.nt_tools.specs.Printing.{Prints}
+use Rattle.nt_tools.proofs.Printing.{prefix-none}
 use Rattle.nt_cli.proofs.desk_output.print_line_fault.Goals as goal
 
 pub returns-in_err-text-clause-prints : goal.returns-in_err-text-clause-prints

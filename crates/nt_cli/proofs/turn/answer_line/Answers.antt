@@ -5,7 +5,7 @@ use Rattle.nt_link.specs.declared.frame.Frame.{Frame}
 use Rattle.nt_rules.specs.declared.act.Entry.{Entry}
 use Rattle.nt_cli.specs.Desk.{lines_of}
 use Rattle.nt_cli.specs.DeskRun.{IsConnected}
-use Rattle.nt_cli.specs.Printing.{Prints}
+use Rattle.nt_tools.specs.Printing.{Prints}
 use Rattle.nt_cli.proofs.DeskSteps.{text-prints, text-stopped, after_turn-is}
 use Rattle.nt_cli.proofs.turn.answer_line.Goals as goal
 

@@ -3,8 +3,8 @@ use Rattle.std.specs.Io.KnownBytes.{Appends}
 use Rattle.std.proofs.KnownBytes.{Appends-nil}
 use Rattle.std.proofs.lemmas.Result.{err_from_is_err_and}
 use Rattle.nt_cli.specs.Desk.{start}
-use Rattle.nt_cli.specs.Printing.{Prints}
-use Rattle.nt_cli.proofs.Printing.{on_ok-always, prefix-none}
+use Rattle.nt_tools.specs.Printing.{Prints}
+use Rattle.nt_tools.proofs.Printing.{on_ok-always, prefix-none}
 use Rattle.nt_cli.proofs.DeskSteps.{drain-lines, drain-other, connected-drain}
 use Rattle.nt_cli.proofs.turn.drain.Goals as goal
 

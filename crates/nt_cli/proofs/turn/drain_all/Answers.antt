@@ -3,7 +3,7 @@ use Rattle.std.specs.Io.KnownBytes.{Appends}
 use Rattle.std.proofs.lemmas.Result.{err_from_is_err_and}
 use Rattle.nt_cli.specs.Desk.{start, drained, after_drains}
 use Rattle.nt_cli.specs.DeskRun.{IsConnected}
-use Rattle.nt_cli.specs.Printing.{Prints}
+use Rattle.nt_tools.specs.Printing.{Prints}
 use Rattle.nt_cli.proofs.DeskSteps.{drains-more, drains-stopped, drains-end, drains-last}
 use Rattle.nt_cli.proofs.turn.drain_all.Goals as goal
 

@@ -1,0 +1,4 @@
+pub mod Escapes
+pub mod Parts
+pub mod ValueTells
+pub mod TellLines

@@ -1,0 +1,4 @@
+pub mod LogPrints
+pub mod LogFeeds
+pub mod LogReplies
+pub mod TellLines

@@ -1,0 +1,4 @@
+pub mod Lines
+pub mod ItemLines
+pub mod LogTools
+pub mod LogRun

@@ -1,0 +1,5 @@
+pub mod Input
+pub mod Lines
+pub mod Reply
+pub mod Printing
+pub mod LineReading
