@@ -1,8 +1,8 @@
 -- The answers of the clock among the messages of a frame.
-use Rattle.std.proofs.Common.{◌≡◌, Bool, true, false, cond, List, [], ◌∷◌, map, filter, refl, sym, ◌∙◌, ap}
+use Rattle.std.proofs.Common.{◌≡◌, Bool, true, false, cond, List, [], ◌∷◌, map, filter, refl, ap}
 use Rattle.nt_frames.specs.declared.message.ValueMsg.{ValueMsg}
 use Rattle.nt_control.specs.declared.message.ServerMsg.{ServerMsg}
-use Rattle.nt_rules.specs.telling.Told.{Message, Text, Value}
+use Rattle.nt_rules.specs.telling.Told.{Text, Value}
 use Rattle.nt_client.specs.Taking.{clock_in, is_clock}
 
 pub clock-texts : (ms : List ServerMsg) → clock_in (map Text ms) ≡ []

@@ -8,7 +8,7 @@ use Rattle.nt_rules.specs.declared.held.Held.{Held}
 use Rattle.nt_rules.specs.declared.topic.Timed.{Timed}
 use Rattle.nt_client.specs.declared.undo.Undo.{Undo}
 use Rattle.nt_client.specs.declared.undo.Undo.TheVariants.{Added, Removed, Props, Value}
-use Rattle.nt_client.specs.Kept.{CanUndo, IsWayBack, LeadsBack, at_index, before, undo, undone}
+use Rattle.nt_client.specs.Kept.{CanUndo, LeadsBack, at_index, before, undo, undone}
 use Rattle.nt_client.proofs.Keeping.{at-back, at-twice}
 
 -- the newest change is undone first

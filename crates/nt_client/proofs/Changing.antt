@@ -1,8 +1,7 @@
 -- What is told of a message, by where its topic was found.
-use Rattle.std.proofs.Common.{◌≡◌, ◌<◌, ℕ, zero, suc, ℤ, Bool, true, false, List, [], ◌∷◌, ◌++◌, Option, Some, None, length, get_or, slice_get, refl, sym, ◌∙◌, ap}
+use Rattle.std.proofs.Common.{◌≡◌, ℕ, zero, suc, ℤ, false, List, [], ◌∷◌, ◌++◌, Some, get_or, slice_get, refl, sym, ◌∙◌, ap}
 use Rattle.std.specs.List.{find, list_any}
 use Rattle.std.specs.Ordering.{int_eq}
-use Rattle.std.specs.Str.{bytes_eq}
 use Rattle.std.proofs.lemmas.Slice.Eq.{bytes_eq-Decides}
 use Rattle.serde_json.specs.Data.{Data}
 use Rattle.nt_frames.specs.declared.message.ValueMsg.{ValueMsg}
@@ -12,7 +11,7 @@ use Rattle.nt_rules.specs.declared.topic.Change.TheVariants.{Started, Changed, P
 use Rattle.nt_rules.specs.telling.Told.{is_called}
 use Rattle.nt_client.specs.Sorted.{IsFoundAt, IsMissedAt}
 use Rattle.nt_client.specs.Kept.{id_of, IsLastAt}
-use Rattle.nt_client.specs.Taking.{if_held, last_called, start_by, end_by, update_by, value_by}
+use Rattle.nt_client.specs.Taking.{if_held, start_by, end_by, update_by, value_by}
 use Rattle.nt_client.proofs.Search.{find-found, find-missed, get-found, key-found, any-found, any-missed}
 use Rattle.nt_client.proofs.Keeping.{called-last, called-none}
 

@@ -1,8 +1,7 @@
 -- Which calls of a client have a cause, by a test of what it has.
-use Rattle.std.proofs.Common.{◌≡◌, ℤ, Bool, true, false, cond, Option, Some, None, ◌∙◌, ap}
+use Rattle.std.proofs.Common.{◌≡◌, ℤ, Bool, true, false, cond, Some, None, ◌∙◌, ap}
 use Rattle.nt_values.specs.declared.value.Value.{Value}
 use Rattle.nt_rules.specs.topics.Topics.{is_value_of}
-use Rattle.nt_client.specs.declared.fault.ClientFault.{ClientFault}
 use Rattle.nt_client.specs.declared.fault.ClientFault.TheVariants.{NoSuchUid, WrongType}
 use Rattle.nt_client.specs.declared.publisher.Publisher.{Publisher}
 use Rattle.nt_client.specs.Calls.{State, fault_of_value, publisher_of, set_fault}

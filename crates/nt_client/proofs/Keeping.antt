@@ -1,9 +1,8 @@
 -- Topics that are held, by rising id, each noted under its name: what keeps that, and what a search for an id or a name
 -- says of what messages change.
-use Rattle.std.proofs.Common.{◌≡◌, ◌⊎◌, ◌≤◌, ◌<◌, ◌+◌, ℕ, zero, suc, ℤ, Bool, true, false, cond, not, ◌&&◌, ◌||◌, List, [], ◌∷◌, ◌++◌, Option, Some, None, length, get_or, set, slice_get, filter, map, inl, inr, refl, sym, ◌∙◌, ap, subst, arith}
-use Rattle.std.specs.Prelude.{insert, remove, ◌<ℤ◌, int_lt}
-use Rattle.std.specs.List.{find, list_any, Contains, AllByRecursion}
-use Rattle.std.specs.Ordering.{int_eq}
+use Rattle.std.proofs.Common.{◌≡◌, ◌≤◌, ◌<◌, ℕ, zero, suc, ℤ, Bool, true, false, ◌&&◌, ◌||◌, List, [], ◌∷◌, Some, None, length, get_or, set, slice_get, map, refl, sym, ◌∙◌, ap, subst, arith}
+use Rattle.std.specs.Prelude.{insert, remove, ◌<ℤ◌}
+use Rattle.std.specs.List.{list_any}
 use Rattle.serde_json.specs.Data.{Data}
 use Rattle.nt_topics.specs.Properties.{updated, is_cached}
 use Rattle.nt_frames.specs.declared.message.ValueMsg.{ValueMsg}
@@ -102,7 +101,7 @@ above-outline k (x ∷ held) (y ∷ held-2) e h =
     let rest : map outline held ≡ map outline held-2 = cc in
     (subst (λ (o : ℤ × List ℕ). k <ℤ o.0) first h.0, above-outline k held held-2 rest h.1)
 
-rise-outline : (held held-2 : List Held) → map outline held ≡ map outline held-2 → Rise id_of held → Rise id_of held-2
+pub rise-outline : (held held-2 : List Held) → map outline held ≡ map outline held-2 → Rise id_of held → Rise id_of held-2
 rise-outline [] [] e h = tt
 rise-outline [] (y ∷ held-2) e h = absurd (cc)
 rise-outline (x ∷ held) [] e h = absurd (cc)

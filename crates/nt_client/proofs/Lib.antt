@@ -7,6 +7,7 @@ pub mod Back
 pub mod Runs
 pub mod Changing
 pub mod Takes
+pub mod ValueSteps
 pub mod Noting
 pub mod Saying
 pub mod Writing

@@ -1,7 +1,6 @@
 -- Longest runs of messages, and a message that is added behind them.
-use Rattle.std.proofs.Common.{◌≡◌, ◌<◌, ◌≤◌, ◌+◌, ◌-◌, ℕ, zero, suc, List, [], ◌∷◌, ◌++◌, Result, Ok, Err, length, get_or, set, map, append_assoc, refl, sym, ◌∙◌, ap, arith}
+use Rattle.std.proofs.Common.{◌≡◌, ◌≤◌, ℕ, zero, suc, List, [], ◌∷◌, ◌++◌, Result, Ok, Err, length, get_or, set, map, append_assoc, refl, sym, ◌∙◌, ap, arith}
 use Rattle.std.specs.Prelude.{OnOk, OnErr}
-use Rattle.std.specs.List.{flat_map}
 use Rattle.nt_rules.specs.declared.act.Msg.{Msg}
 use Rattle.nt_rules.specs.declared.act.Msg.TheVariants.{Control, Put}
 use Rattle.nt_client.specs.declared.queue.Run.{Run}

@@ -1,11 +1,10 @@
 -- Lists in which the keys of the items rise, where keys have a sign, and a binary search for a key in them.
-use Rattle.std.proofs.Common.{◌≡◌, ◌≤◌, ◌<◌, ◌+◌, ℕ, zero, suc, ℤ, Bool, true, false, cond, not, List, [], ◌∷◌, ◌++◌, Option, Some, None, Result, Ok, Err, length, get_or, slice_get, filter, map, Less, Equal, Greater, refl, sym, ◌∙◌, ap, subst, arith, tests}
-use Rattle.std.specs.Prelude.{insert, remove, MatchResult, ◌<ℤ◌, ◌≤ℤ◌, int_lt, ◌⊎◌}
-use Rattle.std.specs.List.{find, list_any, Contains}
+use Rattle.std.proofs.Common.{◌≡◌, ◌≤◌, ◌<◌, ℕ, zero, suc, ℤ, true, false, not, List, [], ◌∷◌, Some, None, Result, Ok, Err, length, get_or, slice_get, filter, Less, Equal, Greater, refl, ap, subst, arith}
+use Rattle.std.specs.Prelude.{insert, remove, MatchResult, ◌<ℤ◌, ◌≤ℤ◌, int_lt}
+use Rattle.std.specs.List.{find, list_any}
 use Rattle.std.specs.List.Sorted.{IsBinarySearchResult, IsSearchInRange}
 use Rattle.std.specs.Ordering.{int_cmp, int_eq, ordering_index}
 use Rattle.std.proofs.lemmas.Int.{ints}
-use Rattle.std.proofs.lemmas.Bool.Decides.{nat_tests}
 use Rattle.nt_client.specs.Sorted.{AreAbove, Rise, IsFoundAt, IsMissedAt}
 
 -- ---- tests of keys
@@ -70,7 +69,7 @@ rises-up key (x ∷ xs) (suc i) (suc j) d h le lt = rises-up key xs i j d h.1 (o
 
 -- ---- what a search answers
 
-found-at : {X : Type 0} (key : X → ℤ) (k : ℤ) (xs : List X) (i : ℕ) → Rise key xs → i < length xs
+pub found-at : {X : Type 0} (key : X → ℤ) (k : ℤ) (xs : List X) (i : ℕ) → Rise key xs → i < length xs
     → ((d : X) → key (get_or xs i d) ≡ k) → IsFoundAt key k xs i
 found-at key k [] i h lt at = absurd (omega arith)
 found-at key k (x ∷ xs) zero h lt at = (at x, subst (λ m. AreAbove key m xs) (at x) h.0)

@@ -1,5 +1,5 @@
 -- Topics as they are stored between frames, with their names or without.
-use Rattle.std.proofs.Common.{◌≡◌, ◌<◌, ◌+◌, ℕ, suc, ℤ, Bool, true, false, List, [], ◌∷◌, add-one, drop, drop-cons, length, get_or, refl, sym, ◌∙◌, ap, subst}
+use Rattle.std.proofs.Common.{◌≡◌, ◌<◌, ◌+◌, ℕ, suc, ℤ, true, false, List, [], ◌∷◌, add-one, drop, drop-cons, length, get_or, sym, ◌∙◌, ap, subst}
 use Rattle.nt_rules.specs.declared.held.Held.{Held}
 use Rattle.nt_client.specs.declared.names.Names.{Names}
 use Rattle.nt_client.specs.declared.topics.Topics.{Topics}

@@ -1,5 +1,5 @@
 -- Messages that are taken one by one.
-use Rattle.std.proofs.Common.{◌≡◌, ◌≤◌, ◌<◌, ◌+◌, ◌-◌, ◌^◌, ℕ, Bool, true, false, cond, min, List, [], ◌∷◌, ◌++◌, filter, append_assoc, refl, sym, ◌∙◌, ap, subst, arith}
+use Rattle.std.proofs.Common.{◌≡◌, ◌<◌, ◌+◌, ◌-◌, ◌^◌, ℕ, Bool, true, false, cond, min, List, [], ◌∷◌, ◌++◌, filter, append_assoc, refl, sym, ◌∙◌, ap, subst, arith}
 use Rattle.nt_frames.specs.declared.message.ValueMsg.{ValueMsg}
 use Rattle.nt_rules.specs.declared.topic.Change.{Change}
 use Rattle.nt_rules.specs.declared.held.Held.{Held}
@@ -7,7 +7,7 @@ use Rattle.nt_rules.specs.telling.Told.{Message, after_message, told_from}
 use Rattle.nt_client.specs.declared.topics.Topics.{Topics}
 use Rattle.nt_client.specs.declared.undo.Undo.{Undo}
 use Rattle.nt_client.specs.Sorted.{Rise}
-use Rattle.nt_client.specs.Kept.{GoesOn, IsKept, LeadsBack, before, id_of}
+use Rattle.nt_client.specs.Kept.{GoesOn, IsKept, before, id_of}
 use Rattle.nt_client.specs.Taking.{changes_by, changes_from, ignored_from, is_clock, is_known, unknown_from}
 use Rattle.nt_client.proofs.Back.{leads-twice}
 

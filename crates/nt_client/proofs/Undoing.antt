@@ -1,7 +1,7 @@
 -- What an answer says by the test of whether it is an error.
-use Rattle.std.proofs.Common.{◌≡◌, ◌⊎◌, ℤ, Bool, true, false, List, ◌∷◌, [], Option, Some, None, Result, Ok, Err, cond, Ordering, Less, Equal, Greater, refl, sym, ◌∙◌, ap}
+use Rattle.std.proofs.Common.{◌≡◌, ℤ, true, false, List, ◌∷◌, [], Option, Some, None, Result, Ok, Err, Ordering, Less, Equal, Greater, refl}
 use Rattle.std.specs.Prelude.{OnOk, OnErr, is_err, is_some}
-use Rattle.std.specs.Ordering.{int_cmp, is_eq, match_ordering}
+use Rattle.std.specs.Ordering.{int_cmp, match_ordering}
 use Rattle.std.specs.BTreeMap.{insert_entry, is_at}
 use Rattle.std.specs.Map.{lookup}
 use Rattle.std.proofs.lemmas.Cmp.{int_cmp_total, tied_itself}

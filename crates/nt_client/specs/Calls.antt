@@ -1,13 +1,12 @@
 -- What a client holds, and what each of its calls but `take` makes of it (NetworkTables 4.1, "Client to Server
 -- Messages").
-use Rattle.std.specs.Prelude.{ℕ, ℤ, Bool, List, [], ◌∷◌, ◌++◌, Option, Some, None, map, not, is_some, if◌then◌else◌}
+use Rattle.std.specs.Prelude.{ℕ, ℤ, List, [], ◌∷◌, ◌++◌, Option, Some, None, map, is_some, if◌then◌else◌}
 use Rattle.std.specs.List.{flat_map}
 use Rattle.std.specs.BTreeMap.{insert_entry, is_at}
 use Rattle.std.specs.Map.{lookup, remove_entry}
 use Rattle.std.specs.Ordering.{int_cmp}
 use Rattle.serde_json.specs.Data.{Data}
 use Rattle.nt_values.specs.declared.value.Value.{Value}
-use Rattle.nt_frames.specs.declared.message.ValueMsg.{ValueMsg}
 use Rattle.nt_topics.specs.Properties.{is_cached}
 use Rattle.nt_subs.specs.declared.sub.Sub.{Sub}
 use Rattle.nt_subs.specs.Subscriptions.{Subs, has_uid, with_sub, without_sub}

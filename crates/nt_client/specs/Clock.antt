@@ -1,6 +1,6 @@
 -- The server's time as a client knows it (NetworkTables 4.1, "Timestamps"): samples, what each says of the offset
 -- from the client's time to the server's, and which is kept.
-use Rattle.std.specs.Prelude.{◌+◌, ◌-◌, ◌/◌, ◌^◌, ◌<◌, ◌≤◌, ℕ, ℤ, pos, ◌+ℤ◌, ◌-ℤ◌, ◌≤ℤ◌, Bool, false, Option, Some, None, ◌==◌, ◌&&◌, nat_le, if◌then◌else◌}
+use Rattle.std.specs.Prelude.{◌-◌, ◌/◌, ◌^◌, ◌<◌, ◌≤◌, ℕ, ℤ, pos, ◌-ℤ◌, ◌≤ℤ◌, Bool, false, Option, Some, None, ◌==◌, ◌&&◌, nat_le, if◌then◌else◌}
 use Rattle.nt_client.specs.declared.clock.Sample.{Sample}
 
 -- the last value asked, and the sample that is kept

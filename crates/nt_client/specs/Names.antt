@@ -1,5 +1,5 @@
 -- Where topics are looked up by name.
-use Rattle.std.specs.Prelude.{◌≡◌, ◌⊎◌, ℕ, ℤ, List, [], ◌∷◌, option_map, unwrap_or}
+use Rattle.std.specs.Prelude.{◌≡◌, ◌⊎◌, ℕ, ℤ, List, [], option_map, unwrap_or}
 use Rattle.std.specs.List.{Contains}
 use Rattle.std.specs.BTreeMap.{get_by_text}
 use Rattle.nt_client.specs.declared.names.Names.{Names}

@@ -1,6 +1,6 @@
 -- What waits to be sent, and the frames into which it is laid: a text frame for control messages that follow one
 -- another, and a binary frame for values that do (NetworkTables 4.1, "Text Data Frames" and "MessagePack Data").
-use Rattle.std.specs.Prelude.{List, [], ◌∷◌, ◌++◌, map}
+use Rattle.std.specs.Prelude.{List, [], ◌∷◌, map}
 use Rattle.std.specs.List.{flat_map}
 use Rattle.nt_frames.specs.Frames.{frame_of}
 use Rattle.nt_control.specs.Frame.{client_text}

@@ -12,6 +12,7 @@ mod step;
 mod take;
 mod topics;
 mod undo;
+mod values;
 
 pub use client::Client;
 pub use clock::ClockSync;

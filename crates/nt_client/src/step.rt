@@ -1,16 +1,15 @@
 //! What one message changes of the topics that a client holds.
 
-ghost use Rattle.std.specs.Prelude.{◌≡◌, ◌++◌, true, not, filter, map, IfOk, OnOk};
+ghost use Rattle.std.specs.Prelude.{◌≡◌, ◌++◌, true, not, filter, IfOk, OnOk};
 ghost use Rattle.std.specs.List.{list_any};
 ghost use Rattle.std.specs.Ordering.{int_eq};
-ghost use Rattle.nt_rules.specs.telling.Told.{after_announce, after_properties, is_called, with_message};
+ghost use Rattle.nt_rules.specs.telling.Told.{after_announce, after_properties, is_called};
 ghost use Rattle.nt_client.specs.Kept.{GoesOn, IsKept};
-ghost use Rattle.nt_client.specs.Taking.{end_by, has_id, start_by, update_by, value_by};
+ghost use Rattle.nt_client.specs.Taking.{end_by, has_id, start_by, update_by};
 
 use crate::topics::{Topics, place_of};
-use crate::undo::{Undo, add, remove, set_value, update_props};
-use nt_frames::ValueMsg;
-use nt_rules::{Change, Changes, Held, Timed};
+use crate::undo::{Undo, add, remove, update_props};
+use nt_rules::{Change, Changes, Held};
 use nt_topics::{Name, Props, TypeName, Update};
 use std::alloc::{AllocError, Global};
 
@@ -110,44 +109,5 @@ pub fn set_properties(
             Ok(true)
         }
         None => Ok(false),
-    }
-}
-
-/// Takes a value of a topic, which keeps it where it is cached.
-pub fn value(
-    alloc: Global,
-    topics: &mut Topics,
-    log: &mut Vec<Undo>,
-    changes: &mut Changes,
-    msg: ValueMsg,
-) -> Result<bool, AllocError>
-    requires { IsKept topics.old.names topics.old.held.items }
-    ensures known { IfOk result (λ known. known ≡ list_any (has_id msg.id) topics.old.held.items) }
-    ensures held { OnOk result
-        (topics.new.held.items ≡ map (with_message msg) topics.old.held.items) }
-    ensures changes { OnOk result
-        (changes.new ≡ changes.old ++ value_by msg topics.old.held.items) }
-    ensures goes_on { GoesOn topics.old log.old.items topics.new log.new.items }
-{
-    let ValueMsg { id, time, value } = msg;
-    match place_of(&topics.held, id) {
-        Ok(at) => {
-            let name = topics.held[at].name.copy(alloc)?;
-            if topics.held[at].props.cached() {
-                let kept = Timed {
-                    time,
-                    value: value.copy(alloc)?,
-                };
-                set_value(&mut topics.held, log, at, Some(kept))?;
-            }
-            changes.push(Change::Changed {
-                id,
-                name,
-                time,
-                value,
-            })?;
-            Ok(true)
-        }
-        Err(_) => Ok(false),
     }
 }

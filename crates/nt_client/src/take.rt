@@ -6,16 +6,14 @@ ghost use Rattle.nt_rules.specs.telling.Told.{Text, Value, after_message, told_f
 ghost use Rattle.nt_client.specs.Kept.{GoesOn, IsKept, IsStored};
 ghost use Rattle.nt_client.specs.Taking.{changes_from, faults, changes_by, ignored_from, is_clock, is_known};
 
-use crate::step::{announce, set_properties, unannounce, value};
+use crate::step::{announce, set_properties, unannounce};
 use crate::topics::Topics;
 use crate::undo::{Undo, refuse};
+use crate::values::{keep_all, tell_all};
 use nt_control::{ServerMsg, ServerRead};
 use nt_frames::{FrameRead, ValueMsg};
 use nt_rules::Changes;
 use std::alloc::{AllocError, Global};
-
-/// The id of the messages by which the clock answers.
-const CLOCK: i64 = -1;
 
 /// What a client took from a frame: what changed of the topics that it holds, the answers of the
 /// clock, and how many frames, elements and messages were ignored (at most the greatest number of
@@ -87,40 +85,6 @@ fn texts(
     Ok(ignored)
 }
 
-/// Takes values, and adds to a count how many are ignored. Those with the
-/// clock's id are its answers, and values too of a topic that is held with that id.
-fn values(
-    alloc: Global,
-    topics: &mut Topics,
-    log: &mut Vec<Undo>,
-    changes: &mut Changes,
-    clock: &mut Vec<ValueMsg>,
-    msgs: Vec<ValueMsg>,
-    ignored: u32,
-) -> Result<u32, AllocError>
-    requires { IsKept topics.old.names topics.old.held.items }
-    ensures ignored { IfOk result (λ count. count ≡ ignored_from topics.old.held.items
-        (map Value msgs.items) ignored) }
-    ensures held { OnOk result (topics.new.held.items ≡ told_from topics.old.held.items
-        (map Value msgs.items)) }
-    ensures changes { OnOk result (changes.new ≡ changes.old ++ changes_from topics.old.held.items
-        (map Value msgs.items)) }
-    ensures clock { OnOk result (clock.new.items ≡ clock.old.items ++ filter is_clock msgs.items) }
-    ensures goes_on { GoesOn topics.old log.old.items topics.new log.new.items }
-{
-    let mut ignored = ignored;
-    for msg in msgs {
-        let is_answer = msg.id == CLOCK;
-        if is_answer {
-            clock.push(msg.copy(alloc)?)?;
-        }
-        if !value(alloc, topics, log, changes, msg)? && !is_answer {
-            ignored = ignored.saturating_add(1);
-        }
-    }
-    Ok(ignored)
-}
-
 /// Takes what a text frame says. For want of memory it leaves the topics as they were.
 pub fn take_texts(alloc: Global, topics: &mut Topics, read: ServerRead) -> Result<Taken, AllocError>
     requires { IsKept topics.old.names topics.old.held.items }
@@ -169,27 +133,21 @@ pub fn take_values(alloc: Global, topics: &mut Topics, read: FrameRead) -> Resul
     ensures err { OnErr result (topics.new.held.items ≡ topics.old.held.items) }
     ensures stored { IsStored topics.new }
 {
-    let mut log = Vec::new(alloc);
     let mut changes = Changes::empty(alloc);
     let mut clock = Vec::new(alloc);
     let faults = u32::from(read.fault.is_some());
-    match values(
+    let ignored = tell_all(
         alloc,
-        topics,
-        &mut log,
+        &topics.held,
         &mut changes,
         &mut clock,
-        read.messages,
+        &read.messages,
         faults,
-    ) {
-        Ok(ignored) => Ok(Taken {
-            changes,
-            clock,
-            ignored,
-        }),
-        Err(error) => {
-            refuse(topics, log);
-            Err(error)
-        }
-    }
+    )?;
+    keep_all(&mut topics.held, read.messages);
+    Ok(Taken {
+        changes,
+        clock,
+        ignored,
+    })
 }

@@ -1,8 +1,9 @@
 //! The topics that a client holds.
 
-ghost use Rattle.std.specs.Prelude.{◌≡◌, ◌≤◌, ◌<◌, ℕ, [], MatchOption, MatchResult, OnOk, false, vec_len, length};
+ghost use Rattle.std.specs.Prelude.{◌≡◌, ◌≤◌, ◌<◌, ℕ, [], MatchOption, MatchResult, OnOk, IfSome, false, vec_len, length, get_or};
 ghost use Rattle.std.specs.List.{list_any};
 ghost use Rattle.nt_rules.specs.telling.Told.{is_called};
+ghost use Rattle.nt_rules.specs.declared.held.Held.{Held};
 ghost use Rattle.nt_client.specs.Kept.{AreNoted, IsCalledAt, IsCalledNowhere, IsKept, IsLastAt, IsStored, id_of};
 ghost use Rattle.nt_client.specs.Names.{AreInOrder};
 ghost use Rattle.nt_client.specs.Sorted.{IsFoundAt, IsMissedAt, Rise};
@@ -20,12 +21,30 @@ pub struct Topics {
     pub is_noted: bool,
 }
 
+/// Where the topic of an id is if the ids up to it rise by one, as those of a server do that is told
+/// of all its topics.
+fn place_in_row(held: &[Held], id: i64) -> Option<usize>
+    ensures { IfSome result (λ at. (at < length held.now)
+        × ((h : Held) → id_of (get_or held.now at h) ≡ id)) }
+{
+    let first = held.first()?.id;
+    let at = usize::try_from(id.checked_sub(first)?).ok()?;
+    if held.get(at)?.id == id {
+        Some(at)
+    } else {
+        None
+    }
+}
+
 /// Where the topic of an id is, or else would stand.
 pub fn place_of(held: &[Held], id: i64) -> Result<usize, usize>
     requires { Rise id_of held.now }
     ensures { MatchResult result (IsFoundAt id_of id held.now) (IsMissedAt id_of id held.now) }
 {
-    held.binary_search_by_key(&id, |h| h.id)
+    match place_in_row(held, id) {
+        Some(at) => Ok(at),
+        None => held.binary_search_by_key(&id, |h| h.id),
+    }
 }
 
 /// Whether the topic of this id is held under this name, and where.

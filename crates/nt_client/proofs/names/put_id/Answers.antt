@@ -1,4 +1,4 @@
-use Rattle.std.proofs.Common.{◌≡◌, ℤ, List, length, sym, subst, rules}
+use Rattle.std.proofs.Common.{◌≡◌, ℤ, List, sym, subst, rules}
 use Rattle.std.specs.Prelude.{insert}
 use Rattle.std.specs.List.{Contains}
 use Rattle.std.proofs.lemmas.Int.{to_z-of_z}

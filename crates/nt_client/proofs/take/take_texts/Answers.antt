@@ -1,4 +1,4 @@
-use Rattle.std.proofs.Common.{◌≡◌, [], List, ◌∙◌, subst}
+use Rattle.std.proofs.Common.{[], List, subst}
 use Rattle.nt_client.specs.declared.undo.Undo.{Undo}
 use Rattle.nt_client.specs.Kept.{GoesOn}
 use Rattle.nt_client.proofs.Takes.{rising-back}

@@ -1,13 +1,10 @@
-use Rattle.std.proofs.Common.{◌≡◌, [], List, ◌∙◌, subst}
-use Rattle.nt_client.specs.declared.undo.Undo.{Undo}
-use Rattle.nt_client.specs.Kept.{GoesOn}
-use Rattle.nt_client.proofs.Takes.{rising-back}
+use Rattle.nt_client.specs.Kept.{IsKept}
+use Rattle.nt_client.proofs.Keeping.{kept-outline}
 use Rattle.nt_client.proofs.take.take_values.Goals as goal
 
-pub refuse-requires-clause-rising : goal.refuse-requires-clause-rising
-refuse-requires-clause-rising c =
-    let on : GoesOn c.args.topics.now [] c.values.new.topics c.values.new.log.items =
-    subst (λ (l : List Undo). GoesOn c.args.topics.now l c.values.new.topics c.values.new.log.items)
-    c.new-log.ensures.items
-    c.values.ensures.goes_on in
-    rising-back c.args.topics.now c.values.new.topics c.values.new.log.items c.requires on
+pub returns-clause-stored : goal.returns-clause-stored
+returns-clause-stored c =
+    let kept : IsKept c.args.topics.now.names c.keep_all.new.held.items =
+    kept-outline c.args.topics.now.names c.args.topics.now.held.items c.keep_all.new.held.items
+    c.keep_all.ensures.outlines c.requires in
+    record { rising = kept.rising; noted = λ is. kept.noted; in_order = kept.in_order }

@@ -1,9 +1,8 @@
-use Rattle.std.proofs.Common.{◌≡◌, ◌<◌, ◌++◌, ◌∷◌, ◌-◌, ℕ, [], List, Some, length, slice_get, refl, sym, ◌∙◌, ap, rules, arith}
+use Rattle.std.proofs.Common.{◌≡◌, ◌<◌, ◌++◌, ◌∷◌, ◌-◌, ℕ, [], List, Some, length, slice_get, refl, sym, ◌∙◌, ap, rules}
 use Rattle.std.specs.Option.{option_copied}
 use Rattle.nt_rules.specs.declared.held.Held.{Held}
 use Rattle.nt_client.specs.declared.undo.Undo.{Undo}
 use Rattle.nt_client.specs.declared.undo.Undo.TheVariants.{Props}
-use Rattle.nt_client.specs.Kept.{at_index}
 use Rattle.nt_client.proofs.Back.{leads-again, leads-props}
 use Rattle.nt_client.proofs.Keeping.{at-set}
 use Rattle.nt_client.proofs.undo.set_props.Goals as goal

@@ -1,7 +1,6 @@
-use Rattle.std.proofs.Common.{◌≡◌, ◌<◌, ◌++◌, ◌∷◌, [], length, refl, rules, arith}
+use Rattle.std.proofs.Common.{◌≡◌, ◌<◌, ◌++◌, ◌∷◌, [], length, refl, rules}
 use Rattle.nt_rules.specs.declared.held.Held.{Held}
 use Rattle.nt_client.specs.declared.undo.Undo.TheVariants.{Value}
-use Rattle.nt_client.specs.Kept.{at_index}
 use Rattle.nt_client.proofs.Back.{leads-value}
 use Rattle.nt_client.proofs.Keeping.{at-set}
 use Rattle.nt_client.proofs.undo.set_value.Goals as goal

@@ -1,4 +1,4 @@
-use Rattle.std.proofs.Common.{◌≡◌, ◌<◌, [], ◌∷◌, List, length, refl, sym, ◌∙◌, ap, subst}
+use Rattle.std.proofs.Common.{◌<◌, [], ◌∷◌, length, refl, sym, ◌∙◌, ap, subst}
 use Rattle.std.specs.Prelude.{vec_len, vec_capacity}
 use Rattle.nt_rules.specs.declared.held.Held.{Held}
 use Rattle.nt_client.specs.declared.undo.Undo.{Undo}

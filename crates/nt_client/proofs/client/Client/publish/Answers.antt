@@ -1,5 +1,5 @@
-use Rattle.std.proofs.Common.{◌≡◌, ◌++◌, ◌∷◌, ℤ, Bool, true, false, List, [], Option, Some, None, refl, sym, ◌∙◌, ap, w64, to_z, of_z, arith}
-use Rattle.std.specs.Prelude.{is_err, is_some}
+use Rattle.std.proofs.Common.{◌≡◌, ℤ, true, false, None, refl, sym, ◌∙◌, ap, w64, to_z, of_z, arith}
+use Rattle.std.specs.Prelude.{is_some}
 use Rattle.std.proofs.lemmas.Int.{to_z-of_z}
 use Rattle.nt_client.proofs.Faults.{none-free, one-used}
 use Rattle.nt_client.proofs.Undoing.{none-of, on-err, on-ok}

@@ -1,4 +1,4 @@
-use Rattle.std.proofs.Common.{w64, to_z, of_z, ◌≡◌, ◌++◌, ◌∷◌, ℤ, Bool, true, false, List, [], Option, Some, None, refl, sym, ◌∙◌, ap, arith, rules}
+use Rattle.std.proofs.Common.{w64, to_z, of_z, ◌≡◌, ℤ, false, Some, None, refl, sym, ◌∙◌, ap, arith, rules}
 use Rattle.std.specs.Ordering.{int_cmp}
 use Rattle.std.specs.BTreeMap.{is_at}
 use Rattle.std.proofs.lemmas.Bool.Decides.{nat_tests}
@@ -7,7 +7,6 @@ use Rattle.std.specs.Map.{set_value}
 use Rattle.std.proofs.lemmas.Map.Steps.{set_value_same}
 use Rattle.nt_rules.specs.declared.topic.Timed.{Timed}
 use Rattle.nt_rules.specs.topics.Topics.{is_value_of}
-use Rattle.nt_client.specs.declared.fault.ClientFault.{ClientFault}
 use Rattle.nt_client.specs.declared.fault.ClientFault.TheVariants.{NoSuchUid, WrongType}
 use Rattle.nt_client.specs.declared.publisher.Publisher.{Publisher}
 use Rattle.nt_client.specs.Calls.{Publishers, State, message_of, publisher_of, queued, set_fault, valued, with_last}

@@ -1,12 +1,10 @@
-use Rattle.std.proofs.Common.{◌≡◌, ◌++◌, ◌∷◌, ℤ, Bool, true, false, List, [], Option, Some, None, refl, sym, ◌∙◌, ap, w64, to_z, of_z, arith}
-use Rattle.std.specs.Prelude.{is_err}
+use Rattle.std.proofs.Common.{◌≡◌, ℤ, true, Some, None, refl, sym, ◌∙◌, ap, w64, to_z, of_z, arith}
 use Rattle.std.specs.Ordering.{int_cmp}
 use Rattle.std.specs.BTreeMap.{insert_entry, is_at}
 use Rattle.std.specs.Map.{lookup}
 use Rattle.std.proofs.lemmas.Int.{to_z-of_z}
 use Rattle.nt_subs.specs.declared.sub.Sub.{Sub}
 use Rattle.nt_subs.specs.Subscriptions.{Subs, with_sub, without_sub}
-use Rattle.nt_client.specs.Calls.{State}
 use Rattle.nt_client.proofs.Saying.{state-of, state-is}
 use Rattle.nt_client.proofs.Undoing.{ok-only, on-err, put-found}
 use Rattle.nt_client.proofs.Writing.{put-back, taken-back}

@@ -1,4 +1,4 @@
-use Rattle.std.proofs.Common.{◌≡◌, [], List, map, filter, sym, ◌∙◌, ap}
+use Rattle.std.proofs.Common.{[], List, filter, sym, ◌∙◌, ap}
 use Rattle.nt_frames.specs.declared.message.ValueMsg.{ValueMsg}
 use Rattle.nt_control.specs.declared.message.ServerMsg.{ServerMsg}
 use Rattle.nt_client.specs.declared.take.Taken.{Taken}

@@ -1,9 +1,8 @@
-use Rattle.std.proofs.Common.{◌≡◌, ◌++◌, ◌∷◌, ℤ, Bool, true, false, List, [], Option, Some, None, refl, sym, ◌∙◌, ap, w64, to_z, of_z, arith}
+use Rattle.std.proofs.Common.{◌≡◌, ℤ, true, false, refl, sym, ◌∙◌, ap, w64, to_z, of_z, arith}
 use Rattle.std.specs.Prelude.{is_some}
 use Rattle.std.proofs.lemmas.Int.{to_z-of_z}
 use Rattle.nt_client.proofs.Faults.{none-used, one-free}
-use Rattle.nt_client.specs.declared.fault.ClientFault.{ClientFault}
-use Rattle.nt_client.specs.declared.fault.ClientFault.TheVariants.{UidInUse, NoSuchUid, WrongType, Memory}
+use Rattle.nt_client.specs.declared.fault.ClientFault.TheVariants.{NoSuchUid}
 use Rattle.nt_client.specs.Calls.{Publishers, State, publisher_of, queued, unpublished, without_publisher}
 use Rattle.nt_control.specs.declared.message.ClientMsg.TheVariants.{Unpublish}
 use Rattle.nt_rules.specs.declared.act.Msg.TheVariants.{Control}

@@ -1,4 +1,4 @@
-use Rattle.std.proofs.Common.{◌≡◌, ◌⊎◌, ℕ, ℤ, Bool, true, false, cond, List, [], ◌∷◌, Option, Some, None, inl, inr, refl, sym, ◌∙◌, ap, subst, arith, rules}
+use Rattle.std.proofs.Common.{◌≡◌, ◌⊎◌, ℕ, ℤ, cond, List, [], Some, None, inr, sym, ◌∙◌, ap, subst, arith, rules}
 use Rattle.std.specs.Prelude.{option_map, unwrap_or}
 use Rattle.std.specs.List.{Contains}
 use Rattle.std.specs.Str.{bytes_eq}
@@ -8,7 +8,6 @@ use Rattle.std.proofs.lemmas.Int.{to_z-of_z}
 use Rattle.nt_client.specs.declared.names.Names.{Names}
 use Rattle.nt_client.specs.Names.{ids_at, itself, AreInOrder, OthersStayNoted}
 use Rattle.nt_client.specs.Sorted.{Rise}
-use Rattle.nt_client.proofs.Members.{contains-none}
 use Rattle.nt_client.proofs.Noting.{IsChangedAt, in-order-changed, others-changed, read-changed, read-dropped}
 use Rattle.nt_client.proofs.names.Names.forget.Goals as goal
 use Rattle.nt_client.proofs.names.Names.forget.Goals.{in-Some, in-None}

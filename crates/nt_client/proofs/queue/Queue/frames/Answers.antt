@@ -1,4 +1,4 @@
-use Rattle.std.proofs.Common.{◌≡◌, ◌++◌, [], List, drop, sym, ◌∙◌, ap, map, rules}
+use Rattle.std.proofs.Common.{◌≡◌, ◌++◌, [], List, drop, sym, ◌∙◌, ap, map}
 use Rattle.std.proofs.lemmas.List.{drop_all}
 use Rattle.nt_client.specs.declared.queue.Run.{Run}
 use Rattle.nt_client.specs.Outgoing.{frames_of, laid}

@@ -1,8 +1,8 @@
 use Rattle.std.proofs.Common.{◌≡◌, ◌++◌, ◌∷◌, ◌-◌, ◌≤◌, ℕ, suc, [], List, length, get_or, set, refl, sym, ◌∙◌, ap, arith, rules}
 use Rattle.std.proofs.lemmas.Result.{on_err_weaker, on_ok_weaker}
-use Rattle.nt_rules.specs.declared.act.Msg.TheVariants.{Control, Put}
+use Rattle.nt_rules.specs.declared.act.Msg.TheVariants.{Control}
 use Rattle.nt_client.specs.declared.queue.Run.{Run}
-use Rattle.nt_client.specs.declared.queue.Run.TheVariants.{Controls, Values}
+use Rattle.nt_client.specs.declared.queue.Run.TheVariants.{Controls}
 use Rattle.nt_client.proofs.Runs.{added, is-alone, is-behind, kept-added, kept-joined, last-with, said-joined, said-of-added}
 use Rattle.nt_client.proofs.queue.Queue.say.Goals as goal
 use Rattle.nt_client.proofs.queue.Queue.say.Goals.{then-len-gt0+in-Values, else-len-gt0}

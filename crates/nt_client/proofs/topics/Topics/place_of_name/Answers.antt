@@ -1,6 +1,6 @@
-use Rattle.std.proofs.Common.{◌≡◌, ◌<◌, ◌≤◌, ◌+◌, ◌-◌, ℕ, ℤ, pos, List, length, get_or, sym, ◌∙◌, ap, subst, arith, rules}
+use Rattle.std.proofs.Common.{◌<◌, ◌-◌, ℕ, ℤ, pos, List, length, get_or, arith, rules}
 use Rattle.nt_client.specs.Names.{ids_at}
-use Rattle.nt_client.specs.Kept.{IsCalledAt, IsCalledNowhere}
+use Rattle.nt_client.specs.Kept.{IsCalledAt}
 use Rattle.nt_client.proofs.Calling.{any-default, called-last, called-none}
 use Rattle.nt_client.proofs.topics.Topics.place_of_name.Goals as goal
 
