@@ -2,8 +2,8 @@
 //! over a `HashMap` of Rust's own library, and prints what `client_bench` prints of it.
 //!
 //! A frame is read with the tests that `nt_frames` makes, by every width of the numbers and with values of every type
-//! that is no list. As there, a frame's messages are read into a list before any is taken, what is told has a name and
-//! a value of its own, and what a value replaces is kept until the whole frame is taken.
+//! that is no list. As there, a frame's messages are read into a list before any is taken, and what is told has a name
+//! and a value of its own.
 use std::collections::HashMap;
 use std::env::args;
 
@@ -176,7 +176,6 @@ fn read_frame(mut left: &[u8]) -> (Vec<Message>, bool) {
 fn take(held: &mut HashMap<i64, Topic>, frame: &[u8]) -> Taken {
     let (messages, is_faulty) = read_frame(frame);
     let mut taken = Taken { changes: Vec::new(), clock: Vec::new(), ignored: u32::from(is_faulty) };
-    let mut replaced = Vec::new();
     for message in messages {
         let Message { id, time, value } = message;
         if id == CLOCK {
@@ -187,11 +186,10 @@ fn take(held: &mut HashMap<i64, Topic>, frame: &[u8]) -> Taken {
             continue;
         };
         if topic.is_cached {
-            replaced.push((id, topic.value.replace((time, value.clone()))));
+            topic.value = Some((time, value.clone()));
         }
         taken.changes.push(Changed { id, name: topic.name.clone(), time, value });
     }
-    std::hint::black_box(&replaced);
     taken
 }
 
