@@ -1,0 +1,5 @@
+pub mod Matching
+pub mod Memory
+pub mod Rosters
+pub mod Telling
+pub mod Tellings

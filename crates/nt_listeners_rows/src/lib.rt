@@ -1,0 +1,5 @@
+//! Worked rows of listeners that are told changes.
+#![tactic(auto)]
+
+#[cfg(test)]
+mod tests;
