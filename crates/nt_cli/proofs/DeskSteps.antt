@@ -1,13 +1,11 @@
 -- What a desk's acts do to its history.
-use Rattle.std.proofs.Common.{◌≡◌, ℕ, suc, zero, ◌+◌, ◌-◌, ◌<◌, ◌≤◌, Bool, true, false, ◌==◌, ◌&&◌, cond, List, [], ◌∷◌, ◌++◌, length, take, Option, None, Some, is_none, Result, Ok, Err, refl, sym, ap, ◌∙◌, subst, arith, append-nil, append_assoc, codes}
+use Rattle.std.proofs.Common.{◌≡◌, ℕ, suc, zero, ◌+◌, ◌-◌, ◌<◌, Bool, true, false, ◌==◌, ◌&&◌, cond, List, [], ◌∷◌, ◌++◌, length, take, Option, None, Some, is_none, Result, Err, refl, sym, ap, ◌∙◌, subst, arith, append-nil, append_assoc, codes}
 use Rattle.std.proofs.lemmas.List.Elements.{filter_map-append}
 use Rattle.std.specs.Io.KnownBytes.{Appends}
 use Rattle.std.proofs.KnownBytes.{Appends-nil, Appends-trans}
 use Rattle.nt_topics.specs.declared.version.Version.TheVariants.{V41}
 use Rattle.nt_link.specs.declared.frame.Frame.{Frame}
-use Rattle.nt_frames.specs.declared.message.ValueMsg.{ValueMsg}
 use Rattle.nt_session.specs.Laid.{frames_in}
-use Rattle.nt_control.specs.declared.message.ServerMsg.{ServerMsg}
 use Rattle.nt_control.specs.declared.message.ClientMsg.TheVariants.{Publish, Unpublish, SetProps, Subscribe, Unsubscribe}
 use Rattle.nt_subs.specs.Subscriptions.{Subs}
 use Rattle.nt_rules.specs.declared.topic.Cause.TheVariants.{NoConn}
@@ -23,7 +21,7 @@ use Rattle.nt_rules.specs.declared.act.Entry.{Entry}
 use Rattle.nt_rules.specs.history.Lives.{Life}
 use Rattle.nt_rules.specs.history.Now.{Now, Connection, now_of, is_conn, is_there, is_open_for, with_subs, connections_after, lives_after, is_traced, cause_of}
 use Rattle.nt_rules.specs.history.Metas.{all_lives}
-use Rattle.nt_rules.specs.history.Owed.{account, owed, keys_owed, behind as fell_behind, messages}
+use Rattle.nt_rules.specs.history.Owed.{account, owed, behind as fell_behind, messages}
 use Rattle.nt_rules.specs.history.Answer.{answer, entry, moment_of, drained_out}
 use Rattle.nt_rules.specs.history.Step.{ServerState, Represents, Steps}
 use Rattle.nt_tools.specs.declared.status.ToolFault.{ToolFault}

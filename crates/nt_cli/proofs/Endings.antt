@@ -1,7 +1,7 @@
 -- How a desk goes on and ends.
-use Rattle.std.proofs.Common.{◌≡◌, ℕ, suc, ◌+◌, ◌-◌, ◌<◌, ◌≤◌, Bool, true, false, List, [], ◌∷◌, ◌++◌, length, take, drop, Option, None, Some, Result, Ok, Err, refl, sym, ap, ◌∙◌, subst, arith, append-nil, append_assoc, length-append}
+use Rattle.std.proofs.Common.{◌≡◌, ℕ, ◌+◌, ◌<◌, ◌≤◌, Bool, true, false, List, [], ◌∷◌, ◌++◌, length, take, drop, Option, None, Some, Result, Ok, Err, refl, sym, ap, ◌∙◌, subst, arith, append-nil, append_assoc, length-append}
 use Rattle.std.proofs.lemmas.Bool.{false≢true}
-use Rattle.std.proofs.lemmas.List.{take-append-drop, length-take-le, take_all}
+use Rattle.std.proofs.lemmas.List.{take-append-drop, length-take-le}
 use Rattle.std.specs.Io.KnownBytes.{Consumes, IsAtEnd, Appends}
 use Rattle.std.proofs.KnownBytes.{Consumes-nil, Consumes-trans, Appends-nil, Appends-trans}
 use Rattle.nt_rules.specs.declared.act.Entry.{Entry}
@@ -10,10 +10,10 @@ use Rattle.nt_tools.specs.declared.status.Status.{Status}
 use Rattle.nt_tools.specs.declared.status.ToolFault.{ToolFault}
 use Rattle.nt_tools.specs.declared.status.ToolFault.TheVariants.{Memory, Read, Write}
 use Rattle.nt_tools.specs.Input.{most_bytes, piece_bytes, Took, MayFollow}
-use Rattle.nt_tools.specs.LineReading.{most_line, IsUnbroken, Ahead, Gives, Reads, IsTooLong}
+use Rattle.nt_tools.specs.LineReading.{Ahead, Reads, IsTooLong}
 use Rattle.nt_tools.specs.Reply.{Reply, IsGiven, IsPrefix, IsCutShort, with_text}
 use Rattle.nt_cli.specs.Desk.{Decoding, IsDecoding, opened, turn_text, last_text, after_turn, reply_within, desk_reply, RepliesAtDesk, RepliesToTaken, DeskBegun, DeskBroken, EndsDesk}
-use Rattle.nt_tools.specs.Printing.{number_of, printing, Prints, Follows}
+use Rattle.nt_tools.specs.Printing.{number_of, Prints, Follows}
 use Rattle.nt_cli.specs.DeskRun.{IsConnected, Progress, left_reply, beginning, Settles, Stops, Breaks, Ends, GoesOn}
 use Rattle.nt_tools.proofs.LineFeeds.{unbroken-append}
 use Rattle.nt_cli.proofs.LineReplies.{long_reply, many_reply, end_reply, line-reply, long-reply, many-reply, end-reply}

@@ -7,3 +7,5 @@ pub mod DeskSteps
 pub mod DeskTurns
 pub mod Endings
 pub mod Turns
+pub mod Numbers
+pub mod Tools

@@ -1,12 +1,12 @@
 -- The messages of lines meet the conditions of a step, and frames are messages in one way.
-use Rattle.std.proofs.Common.{◌≡◌, ◌≤◌, ◌<◌, ◌^◌, ℕ, nat_lt, true, false, map, List, [], ◌∷◌, Option, Some, None, Result, Ok, Err, IfOk, refl, sym, ap, ◌∙◌, subst}
+use Rattle.std.proofs.Common.{◌≡◌, ◌^◌, ℕ, true, false, map, List, [], ◌∷◌, Option, Some, None, Result, Ok, Err, IfOk, sym, ap, ◌∙◌, subst}
 use Rattle.std.specs.List.{AllByRecursion}
 use Rattle.std.proofs.lemmas.Bool.{ltb-true}
 use Rattle.nt_control.specs.declared.message.ClientMsg.{ClientMsg}
 use Rattle.nt_control.specs.Frame.{said_in}
 use Rattle.nt_frames.specs.declared.message.ValueMsg.{ValueMsg}
 use Rattle.nt_frames.specs.declared.message.FrameFault.{FrameFault}
-use Rattle.nt_frames.specs.Frames.{IsMessage, IsFrame, Means}
+use Rattle.nt_frames.specs.Frames.{IsFrame, Means}
 use Rattle.nt_rules.specs.declared.act.Msg.{Msg}
 use Rattle.nt_rules.specs.declared.act.Msg.TheVariants.{Control, Put}
 use Rattle.nt_rules.specs.history.Step.{IsPut}

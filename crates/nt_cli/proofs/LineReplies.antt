@@ -1,5 +1,5 @@
 -- The reply of a desk, line by line.
-use Rattle.std.proofs.Common.{◌≡◌, ℕ, suc, ◌+◌, ◌-◌, ◌<◌, ◌≤◌, Bool, true, false, cond, List, [], ◌∷◌, ◌++◌, length, take, refl, sym, ap, ◌∙◌, subst, arith, append-nil, append_assoc, nat_lt, length-append, inl, inr}
+use Rattle.std.proofs.Common.{◌≡◌, ℕ, suc, ◌+◌, ◌-◌, ◌<◌, ◌≤◌, Bool, true, false, cond, List, [], ◌∷◌, ◌++◌, length, take, refl, sym, ap, ◌∙◌, arith, append-nil, nat_lt, length-append, inl, inr}
 use Rattle.std.proofs.Math.Seq.{take-append-add, take-append_seam}
 use Rattle.std.proofs.lemmas.Bool.{lt-ltb, le-ltb, cases_lt}
 use Rattle.std.proofs.lemmas.List.{take_all}
@@ -7,7 +7,7 @@ use Rattle.nt_rules.specs.declared.act.Entry.{Entry}
 use Rattle.nt_tools.specs.Lines.{too_long}
 use Rattle.nt_tools.specs.LineReading.{most_line, IsUnbroken}
 use Rattle.nt_tools.specs.Reply.{Reply, with_text}
-use Rattle.nt_cli.specs.Desk.{Decoding, is_empty, whole_lines, last_line, line_fault, turn_text, last_text, after_turn, last_reply, lines_reply, reply_within}
+use Rattle.nt_cli.specs.Desk.{Decoding, is_empty, whole_lines, last_line, line_fault, turn_text, last_text, after_turn, lines_reply, reply_within}
 use Rattle.nt_cli.proofs.WholeLines.{all_before_first, whole_lines-append, last_line-append, whole_lines-unbroken, last_line-unbroken}
 
 -- the replies that end a desk

@@ -1,5 +1,5 @@
 -- What the loop over a desk's turns keeps.
-use Rattle.std.proofs.Common.{◌≡◌, ℕ, ◌+◌, ◌≤◌, List}
+use Rattle.std.proofs.Common.{ℕ, ◌+◌, ◌≤◌, List}
 use Rattle.std.specs.declared.option.Option.{Option}
 use Rattle.nt_rules.specs.history.Step.{ServerState}
 use Rattle.nt_tools.specs.Input.{most_bytes}

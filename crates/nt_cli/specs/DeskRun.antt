@@ -1,6 +1,6 @@
 -- A desk at work: the history that its table stands for, and what it printed when it stopped.
 use Rattle.std.specs.Prelude.{◌≡◌, ◌≤◌, ℕ, ◌+◌, Bool, true, List, [], ◌++◌, length, Result, Ok, Err, Option, None, Some}
-use Rattle.std.specs.Io.KnownBytes.{Consumes, IsAtEnd, Appends}
+use Rattle.std.specs.Io.KnownBytes.{Consumes, Appends}
 use Rattle.nt_rules.specs.declared.act.Entry.{Entry}
 use Rattle.nt_rules.specs.history.Now.{now_of, is_open_for}
 use Rattle.nt_rules.specs.history.Step.{ServerState, Represents}

@@ -22,7 +22,7 @@ pub const ANNOUNCE_B: &str =
     r#"[{"method":"announce","params":{"id":2,"name":"/b","properties":{},"pubuid":-2,"type":"double"}}]"#;
 
 /// Words that no tool has.
-const OTHER_WORDS: [&[&str]; 7] = [
+const OTHER_WORDS: [&[&str]; 10] = [
     &[],
     &["frob"],
     &["check"],
@@ -30,6 +30,17 @@ const OTHER_WORDS: [&[&str]; 7] = [
     &["show"],
     &["show", "a", "b"],
     &["desk", "a"],
+    &["gen", "7", "0"],
+    &["gen", "7", "100000001", "a"],
+    &["gen", "+7", "0", "a"],
+];
+
+/// The log that `gen 7 0` makes: the header, a Start and a Finish.
+const EMPTY_GEN: [u8; 50] = [
+    0x57, 0x50, 0x49, 0x4c, 0x4f, 0x47, 0x00, 0x01, 0x00, 0x00, 0x00, 0x00, 0x00, 0x00, 0x19, 0x00,
+    0x00, 0x01, 0x00, 0x00, 0x00, 0x03, 0x00, 0x00, 0x00, 0x67, 0x65, 0x6e, 0x05, 0x00, 0x00, 0x00,
+    0x69, 0x6e, 0x74, 0x36, 0x34, 0x00, 0x00, 0x00, 0x00, 0x00, 0x00, 0x05, 0x01, 0x01, 0x01, 0x00,
+    0x00, 0x00,
 ];
 
 fn strings(alloc: Global, words: &[&str]) -> Result<Vec<String>, AllocError> {
@@ -86,6 +97,29 @@ fn tools_name_their_file(rt: HostRuntime) -> Result<(), Fail> {
     }
     let files = tool_files(alloc, &strings(alloc, &["desk"])?)?;
     assert!(rt; files.source.is_none() && files.sink.is_none());
+    let files = tool_files(alloc, &strings(alloc, &["gen", "007", "100000000", "a"])?)?;
+    assert!(rt; files.source.is_none());
+    assert_eq!(rt; files.sink.as_ref().map(|path| path.as_str()), Some("a"));
+    Ok(())
+}
+
+#[test]
+fn gen_makes_a_log_and_stops_where_a_write_fails(rt: HostRuntime) -> Result<(), Fail> {
+    let alloc = rt.alloc();
+    let words = strings(alloc, &["gen", "7", "0", "a"])?;
+    let rows: [(&[u64], &[u64], &[u8], &str, u8); 3] = [
+        (&[], &[], &EMPTY_GEN, "items 2 bytes 50\n", 0),
+        (&[0], &[], &[], "", 4),
+        (&[], &[0], &EMPTY_GEN, "", 4),
+    ];
+    for (sink_fails, out_fails, log, text, status) in &rows {
+        let mut source = MemSource::new(Vec::new(alloc), Vec::from_slice(alloc, &[0])?);
+        let mut sink = MemSink::new(alloc, Vec::from_slice(alloc, sink_fails)?);
+        let mut out = MemSink::new(alloc, Vec::from_slice(alloc, out_fails)?);
+        let answer = run_tool(alloc, &words, &mut source, &mut sink, &mut out);
+        assert_eq!(rt; answer, *status);
+        assert_eq!(rt; (sink.taken(), out.taken()), (*log, text.as_bytes()));
+    }
     Ok(())
 }
 

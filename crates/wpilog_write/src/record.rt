@@ -97,7 +97,8 @@ fn put_value(out: &mut Vec<u8>, value: &LogValue) -> Result<(), AllocError>
     Ok(())
 }
 
-/// Appends the payload of an item.
+/// Appends the payload of an item ("Control Records", "Data Types"). For want of memory the bytes may hold a part of
+/// it.
 pub fn put_payload(out: &mut Vec<u8>, item: &LogItem) -> Result<(), AllocError>
     ensures { OnOk result (out.new.items ≡ out.old.items ++ payload_of item.now) }
 {
@@ -140,7 +141,8 @@ fn stamp_of(item: &LogItem) -> (u32, u64)
     }
 }
 
-/// Appends the record of an item with this payload ("Records").
+/// Appends the record of an item with this payload ("Records"), each number in its shortest spelling. For want of
+/// memory the bytes may hold a part of it.
 pub fn put_record(out: &mut Vec<u8>, item: &LogItem, payload: &[u8]) -> Result<(), AllocError>
     requires { payload.now ≡ payload_of item.now }
     ensures { OnOk result (out.new.items ≡ out.old.items ++ record_of item.now) }

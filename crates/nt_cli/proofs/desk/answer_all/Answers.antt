@@ -1,4 +1,4 @@
-use Rattle.std.proofs.Common.{◌≡◌, [], None, Some, Ok, Err, arith, rules}
+use Rattle.std.proofs.Common.{◌≡◌, [], None, Ok, Err, rules}
 use Rattle.std.proofs.KnownBytes.{Consumes-nil}
 use Rattle.std.proofs.lemmas.Result.{err_from_is_err_and}
 use Rattle.nt_tools.specs.Printing.{number_of}

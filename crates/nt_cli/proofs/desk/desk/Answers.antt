@@ -1,4 +1,4 @@
-use Rattle.std.proofs.Common.{ℕ, List, Option, Err, ap}
+use Rattle.std.proofs.Common.{ℕ, List, Option}
 use Rattle.nt_frames.specs.declared.message.ValueMsg.{ValueMsg}
 use Rattle.nt_frames.specs.declared.message.FrameFault.{FrameFault}
 use Rattle.nt_frames.specs.Frames.{Means}

@@ -1,4 +1,3 @@
-use Rattle.std.proofs.Common.{List}
 use Rattle.nt_cli.proofs.LineMessages.{messages-binary, messages-text}
 use Rattle.nt_cli.proofs.messages.messages_in.Goals as goal
 

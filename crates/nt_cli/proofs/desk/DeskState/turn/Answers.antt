@@ -1,12 +1,11 @@
-use Rattle.std.proofs.Common.{◌≡◌, ℕ, List, [], ◌∷◌, Ok, Err, ap, subst}
+use Rattle.std.proofs.Common.{ℕ, List, [], ◌∷◌, Ok, Err, ap, subst}
 use Rattle.std.proofs.lemmas.Result.{err_from_is_err_and}
 use Rattle.nt_tools.specs.declared.status.ToolFault.{ToolFault}
 use Rattle.nt_tools.specs.declared.line.LineEnd.{LineEnd}
 use Rattle.nt_tools.specs.declared.line.LineFault.{LineFault}
 use Rattle.nt_tools.specs.Lines.{too_long}
 use Rattle.nt_tools.specs.LineReading.{Reads}
-use Rattle.nt_cli.specs.Desk.{line_fault, turn_text, last_text, after_turn}
-use Rattle.nt_cli.specs.DeskRun.{IsConnected}
+use Rattle.nt_cli.specs.Desk.{line_fault, turn_text, last_text}
 use Rattle.nt_tools.specs.Printing.{Prints}
 use Rattle.nt_tools.proofs.LineReads.{passed_on}
 use Rattle.nt_cli.proofs.Endings.{turn-line, turn-line_stopped, turn-end, turn-end_stopped, turn-fault, turn-fault_stopped, left-long, left-many}
